@@ -1,1 +1,3 @@
 pub mod directive;
+pub mod filter;
+pub mod convert;

@@ -1,1 +1,3 @@
 pub mod Strings
+pub mod Ordered
+pub mod Patterns
