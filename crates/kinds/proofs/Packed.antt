@@ -44,3 +44,13 @@ reads-past {X} limit make n h = go (ltb n limit) (ltb→lt n limit)
     go : (t : Bool) (f : T t → n < limit) → _≡_ {A = Result X PatternFault} (Err Unlawful) (okOr (belowBy limit make n t f) Unlawful)
     go true f = let k = f tt in absurd (omega arith)
     go false f = refl
+
+-- ---- a kind whose values are packed into numbers below a limit, where packing undoes making and making undoes packing
+module _ {X : Type 0} (limit : ℕ) (make : (n : ℕ) → n < limit → X) (pack : X → ℕ) (fits : (x : X) → pack x < limit) (again : (x : X) (h : pack x < limit) → make (pack x) h ≡ x) where
+  -- a number reads as the value that is packed into it
+  pub below-packed : (n : ℕ) (x : X) → pack x ≡ n → below limit make n ≡ Some x
+  below-packed n x e =
+      subst (λ (m : ℕ). below limit make m ≡ Some x) e (below-some limit make (pack x) (fits x) ∙ ap {B = Option X} Some (again x (fits x)))
+
+  pub reads-packed : (n : ℕ) (x : X) → pack x ≡ n → _≡_ {A = Result X PatternFault} (Ok x) (okOr (below limit make n) Unlawful)
+  reads-packed n x e = ap (λ (o : Option X). okOr {E = PatternFault} o Unlawful) (sym (below-packed n x e))

@@ -1,3 +1,4 @@
 pub mod Strings
 pub mod Ordered
 pub mod Patterns
+pub mod Parts

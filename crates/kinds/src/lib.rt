@@ -2,10 +2,10 @@
 pub mod address;
 pub mod cost;
 pub mod ipv4;
-
+pub mod ipv6;
 pub mod plain;
-
-
-
-
+pub mod prefix;
+pub mod rank;
+pub mod socket;
+pub mod tariff;
 pub mod written;
