@@ -1,0 +1,3 @@
+pub mod Bests
+pub mod Reading
+pub mod Strays

@@ -1,2 +1,5 @@
 pub mod Rules
+pub mod Orders
+pub mod Directives
 pub mod Meaning
+pub mod Refusals

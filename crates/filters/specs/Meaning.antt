@@ -8,7 +8,9 @@ use Rattle.kinds.specs.Strings.{Str}
 use Rattle.filters.specs.declared.filter.Prefix.{Prefix}
 use Rattle.filters.specs.declared.filter.Filter.{Filter}
 use Rattle.filters.specs.declared.filter.Record.{Record}
-use Rattle.filters.specs.Rules.{Rule}
+use lib.Dec.{ltb}
+use Rattle.std.specs.declared.cmp.Ordering.{Ordering}
+use Rattle.filters.specs.Rules.{Rule, byCost, count}
 
 -- a prefix is the string of the first bits of its address, as many as its length
 abbrev pub prefixOf : {A : Type 0} → (A → Str) → Prefix A → Str
@@ -62,3 +64,7 @@ module _ {D S P C : Type 0} (dst : D → Str) (src : S → Str) (reads : P → O
   abbrev pub rules : List (Record D S P) → List (Rule C)
   rules [] = []
   rules (r ∷ rs) = held r ++ rules rs
+
+-- how many of the filters are better than one of this cost and label
+abbrev pub standingOf : {C : Type 0} → (C → C → Ordering) → List (Rule C) → C → ℕ → ℕ
+standingOf order F cost label = count (λ g. byCost (order (g .cost) cost) (ltb (g .label) label)) F

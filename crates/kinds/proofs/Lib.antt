@@ -2,3 +2,4 @@ pub mod Bits
 pub mod Packed
 pub mod Fields
 pub mod Agree
+pub mod Prefixes
