@@ -2,7 +2,7 @@
 -- costs, rank filters; and linear search finds the best match.
 use mathlib.Core.Path.{_≡_, refl, sym, ap, subst, _∙_}
 use mathlib.Core.Logic.{_⊎_, inl, inr}
-use mathlib.Core.Bool.{Bool, true, false, cond}
+use mathlib.Core.Bool.{Bool, true, false}
 use mathlib.Core.List.{List, [], _∷_, map}
 use Prim.Native.Nat.{ℕ, _<_, _≤_}
 use native.Mathlib.Omega.{arith}
@@ -121,33 +121,37 @@ module _ {C : Type 0} (lt : Rule C → Rule C → Bool) where
   pick-some None x f e = inr e
   pick-some (Some g) None f e = inl e
   pick-some (Some g) (Some h) f e =
-      elim (cases-bool (lt h g))
-      [ inl t ↦ inr (sym (cond-true (lt h g) (Some h) (Some g) t) ∙ e)
-      | inr t ↦ inl (sym (cond-false (lt h g) (Some h) (Some g) t) ∙ e) ]
+      elim (cases-bool (lt h g)) [
+        | inl t ↦ inr (sym (cond-true (lt h g) (Some h) (Some g) t) ∙ e)
+        | inr t ↦ inl (sym (cond-false (lt h g) (Some h) (Some g) t) ∙ e)
+      ]
 
   -- what a scan gives was there at the start or was read
   pub scan-some : (acc : Option (Rule C)) (xs : List (Option (Rule C))) (f : Rule C) → scan lt acc xs ≡ Some f → (acc ≡ Some f) ⊎ In (Some f) xs
   scan-some acc [] f e = inl e
   scan-some acc (x ∷ xs) f e =
-      elim (scan-some (pick lt acc x) xs f e)
-      [ inl p ↦ elim (pick-some acc x f p) [ inl q ↦ inl q | inr q ↦ inr (inl (sym q)) ]
-      | inr h ↦ inr (inr h) ]
+      elim (scan-some (pick lt acc x) xs f e) [
+        | inl p ↦ elim (pick-some acc x f p) [ inl q ↦ inl q | inr q ↦ inr (inl (sym q)) ]
+        | inr h ↦ inr (inr h)
+      ]
 
   only-some : (p : Rule C → Bool) (g f : Rule C) → only lt p g ≡ Some f → (p f ≡ true) × (f ≡ g)
   only-some p g f e =
-      elim (cases-bool (p g))
-      [ inl t ↦ let q = some-same g f (sym (cond-true (p g) (Some g) None t) ∙ e) in (subst (λ z. p z ≡ true) q t, sym q)
-      | inr t ↦ absurd (none-some f (sym (cond-false (p g) (Some g) None t) ∙ e)) ]
+      elim (cases-bool (p g)) [
+        | inl t ↦ let q = some-same g f (sym (cond-true (p g) (Some g) None t) ∙ e) in (subst (λ z. p z ≡ true) q t, sym q)
+        | inr t ↦ absurd (none-some f (sym (cond-false (p g) (Some g) None t) ∙ e))
+      ]
 
   -- the best is in the list and passes
   pub best-from : (p : Rule C → Bool) (F : List (Rule C)) (f : Rule C) → best lt p F ≡ Some f → In f F × (p f ≡ true)
   best-from p F f e =
-      elim (scan-some None (map (only lt p) F) f e)
-      [ inl q ↦ absurd (none-some f q)
-      | inr h ↦
-          let m = map-in (only lt p) (Some f) F h in
-          let o = only-some p (m .0) f (sym (m .2)) in
-          (subst (λ z. In z F) (sym (o .1)) (m .1), o .0) ]
+      elim (scan-some None (map (only lt p) F) f e) [
+        | inl q ↦ absurd (none-some f q)
+        | inr h ↦
+            let m = map-in (only lt p) (Some f) F h in
+            let o = only-some p (m .0) f (sym (m .2)) in
+            (subst (λ z. In z F) (sym (o .1)) (m .1), o .0)
+      ]
 
   -- no best, where none passes
   pub none-best : (p : Rule C → Bool) (F : List (Rule C)) → ((f : Rule C) → In f F → p f ≡ false) → best lt p F ≡ None
@@ -160,9 +164,10 @@ module _ {C : Type 0} (lt : Rule C → Rule C → Bool) where
 -- none passes, where there is no best
 pub best-none : {C : Type 0} (lt : Rule C → Rule C → Bool) → Order lt → (p : Rule C → Bool) (F : List (Rule C)) → best lt p F ≡ None → (f : Rule C) → In f F → p f ≡ false
 best-none lt ord p F e f h =
-    elim (cases-bool (p f))
-    [ inl t ↦ absurd (subst (λ o. AsGood lt o (Some f)) e (best-all lt ord p F f h t))
-    | inr t ↦ t ]
+    elim (cases-bool (p f)) [
+      | inl t ↦ absurd (subst (λ o. AsGood lt o (Some f)) e (best-all lt ord p F f h t))
+      | inr t ↦ t
+    ]
 
 -- ---- what an answer of a comparison says of the better
 
@@ -204,24 +209,30 @@ module _ {C : Type 0} (order : C → C → Ordering) (laws : Compares order) whe
     where
       gf : isLe (order (g .cost) (f .cost)) ≡ true
       gf = not-better f g p
+
       hg : isLe (order (h .cost) (g .cost)) ≡ true
       hg = not-better g h q
+
       hf : isLe (order (h .cost) (f .cost)) ≡ true
       hf = laws .chain (h .cost) (g .cost) (f .cost) hg gf
+
       labels : order (f .cost) (h .cost) ≡ Equal → ltb (f .label) (h .label) ≡ false
       labels e =
           let fh : isLe (order (f .cost) (h .cost)) ≡ true = rw e refl in
           let fg = laws .chain (f .cost) (h .cost) (g .cost) fh hg in
           let gh = laws .chain (g .cost) (f .cost) (h .cost) gf fh in
-          elim (not-by-cost (order (f .cost) (g .cost)) (ltb (f .label) (g .label)) p)
-          [ inl x ↦ absurd (greater-not-le (order (f .cost) (g .cost)) x fg)
-          | inr x ↦
-              elim (not-by-cost (order (g .cost) (h .cost)) (ltb (g .label) (h .label)) q)
-              [ inl y ↦ absurd (greater-not-le (order (g .cost) (h .cost)) y gh)
-              | inr y ↦
-                  let a = ltb-false (f .label) (g .label) (x .1) in
-                  let b = ltb-false (g .label) (h .label) (y .1) in
-                  le-ltb (f .label) (h .label) (omega arith) ] ]
+          elim (not-by-cost (order (f .cost) (g .cost)) (ltb (f .label) (g .label)) p) [
+            | inl x ↦ absurd (greater-not-le (order (f .cost) (g .cost)) x fg)
+            | inr x ↦
+                elim (not-by-cost (order (g .cost) (h .cost)) (ltb (g .label) (h .label)) q) [
+                  | inl y ↦ absurd (greater-not-le (order (g .cost) (h .cost)) y gh)
+                  | inr y ↦
+                      let a = ltb-false (f .label) (g .label) (x .1) in
+                      let b = ltb-false (g .label) (h .label) (y .1) in
+                      le-ltb (f .label) (h .label) (omega arith)
+                ]
+          ]
+
       go : (o : Ordering) → order (f .cost) (h .cost) ≡ o → byCost o (ltb (f .label) (h .label)) ≡ false
       go Less e = absurd (both-ways (isLe (order (h .cost) (f .cost))) (rw (laws .exchange (f .cost) (h .cost), e) refl) hf)
       go Equal e = labels e
@@ -259,8 +270,10 @@ module _ {C : Type 0} (order : C → C → Ordering) (laws : Compares order) (F 
     where
       from : In f F × (matches d s f ≡ true)
       from = linear-from (better order) (ranks order laws) F d s f e
+
       least : (g : Rule C) → In g F → matches d s g ≡ true → better order g f ≡ false
       least g h t = linear-least (better order) (ranks order laws) F d s f g e h t
+
       after : (g : Rule C) → In g F → matches d s g ≡ true → order (f .cost) (g .cost) ≡ Equal → (f ≡ g → ⊥) → f .label < g .label
       after g h t q ne =
           let r : order (g .cost) (f .cost) ≡ Equal = rw (laws .exchange (f .cost) (g .cost), q) refl in
@@ -286,18 +299,23 @@ module _ {C : Type 0} (order : C → C → Ordering) (laws : Compares order) (F 
       inside : (o : Option (Rule C)) → Best-match order F d s o → (f : Rule C) → o ≡ Some f → In f F
       inside None m f e = absurd (none-some f e)
       inside (Some g) m f e = subst (λ z. In z F) (some-same g f e) (m .stands)
+
       covers : (o : Option (Rule C)) → Best-match order F d s o → AsGood (better order) (linear (better order) F d s) o
       covers None m = tt
       covers (Some f) m = best-all (better order) (ranks order laws) (matches d s) F f (m .stands) (m .fits)
+
       settled : (o : Ordering) (m n : ℕ) → isLe o ≡ true → (o ≡ Equal → m ≤ n) → byCost (reversed o) (ltb n m) ≡ false
       settled Less m n h k = refl
       settled Equal m n h k = le-ltb n m (k refl)
       settled Greater m n h k = absurd (both-ways false refl h)
+
       ahead : (f g : Rule C) → Best order F d s f → In g F → matches d s g ≡ true → order (f .cost) (g .cost) ≡ Equal → f .label ≤ g .label
       ahead f g m h t q =
-          elim (cases-eq (f .label) (g .label))
-          [ inl e ↦ omega arith
-          | inr ne ↦ let l = m .first g h t q (λ e. ne (ap (λ (z : Rule C). z .label) e)) in omega arith ]
+          elim (cases-eq (f .label) (g .label)) [
+            | inl e ↦ omega arith
+            | inr ne ↦ let l = m .first g h t q (λ e. ne (ap (λ (z : Rule C). z .label) e)) in omega arith
+          ]
+
       no-worse : (o : Option (Rule C)) → linear (better order) F d s ≡ o → (b : Option (Rule C)) → Best-match order F d s b → AsGood (better order) b o
       no-worse None e b m = tt
       no-worse (Some g) e None m =

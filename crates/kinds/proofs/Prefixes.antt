@@ -1,13 +1,13 @@
 -- Laws of prefixes and of equal strings.
-use Prim.Native.Nat.{ℕ, zero, suc, _+_, _≤_}
+use Prim.Native.Nat.{ℕ, zero, suc, _≤_}
 use native.Mathlib.Omega.{arith}
-use mathlib.Core.Path.{_≡_, refl, sym, ap, subst, _∙_}
+use mathlib.Core.Path.{_≡_, refl, sym, _∙_}
 use mathlib.Core.Logic.{_⊎_, inl, inr}
-use mathlib.Core.Bool.{Bool, true, false, _&&_, Bool·beq}
-use mathlib.Core.List.{List, [], _∷_, _++_}
+use mathlib.Core.Bool.{Bool, true, false, Bool·beq}
+use mathlib.Core.List.{[], _∷_, _++_}
 use lib.ListN.{length, take}
 use Rattle.std.proofs.shelf.Tests.{both-ways, and-parts, and-from}
-use Rattle.kinds.specs.Strings.{Str, starts, equal, snoc}
+use Rattle.kinds.specs.Strings.{Str, starts, equal}
 
 -- ---- bits
 
@@ -21,7 +21,7 @@ pub beq-refl : (a : Bool) → Bool·beq a a ≡ true
 beq-refl true = refl
 beq-refl false = refl
 
--- two bits that differ are each the other's opposite
+-- where the test fails, the bits differ
 pub beq-not : (a b : Bool) → Bool·beq a b ≡ false → (a ≡ b → ⊥)
 beq-not a b h e = both-ways (Bool·beq a b) h (rw e (beq-refl b))
 
@@ -53,9 +53,10 @@ starts-either (a ∷ p) (b ∷ q) (c ∷ t) h k =
     let h' = and-parts (Bool·beq a c) (starts p t) h in
     let k' = and-parts (Bool·beq b c) (starts q t) k in
     let e : a ≡ b = beq-same a c (h' .0) ∙ sym (beq-same b c (k' .0)) in
-    elim (starts-either p q t (h' .1) (k' .1))
-    [ inl l ↦ inl (and-from (Bool·beq a b) (starts p q) (rw e (beq-refl b)) l)
-    | inr l ↦ inr (and-from (Bool·beq b a) (starts q p) (rw e (beq-refl b)) l) ]
+    elim (starts-either p q t (h' .1) (k' .1)) [
+      | inl l ↦ inl (and-from (Bool·beq a b) (starts p q) (rw e (beq-refl b)) l)
+      | inr l ↦ inr (and-from (Bool·beq b a) (starts q p) (rw e (beq-refl b)) l)
+    ]
 
 pub starts-length : (p t : Str) → starts p t ≡ true → length p ≤ length t
 starts-length [] t h = omega arith

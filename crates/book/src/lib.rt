@@ -1,0 +1,4 @@
+// The filter book, in memory that is handed in.
+pub mod book;
+pub mod fault;
+mod memory;

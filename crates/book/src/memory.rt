@@ -1,0 +1,40 @@
+// Writing places of memory that is lent.
+ghost use Prim.Native.Nat.{ℕ, suc, _+_, _<_};
+ghost use mathlib.Core.Bool.{false};
+ghost use mathlib.Core.Path.{_≡_};
+ghost use lib.ListN.{length, set, drop};
+ghost use lib.Seq.{paste};
+ghost use Rattle.std.specs.Options.{Cases};
+ghost use Rattle.book.specs.Labels.{labels, has, FirstAt};
+use filters::filter::Record;
+
+// Writes one place.
+pub(crate) fn put<R: Copy>(places: &mut [R], at: usize, value: R)
+    requires { ⌜ at < length (now places) ⌝ }
+    ensures { λ _. ⌜ now (places .exit) ≡ set (now (places .entry)) at value ⌝ }
+{
+    places[at] = value;
+}
+
+// Moves the `left` places above `at` down by one; the last of them keeps its content.
+pub(crate) fn close<R: Copy>(places: &mut [R], at: usize, left: usize)
+    requires { ⌜ at + left < length (now places) ⌝ }
+    ensures { λ _. ⌜ now (places .exit) ≡ paste (now (places .entry)) at (drop (suc at) (now (places .entry))) left ⌝ }
+{
+    for i in 0..left {
+        let moved = places[at + i + 1];
+        places[at + i] = moved;
+    }
+}
+
+// The first place of a label.
+pub(crate) fn find<D: Copy, S: Copy, C: Copy>(places: &[Record<D, S, C>], label: u16) -> Option<usize>
+    ensures { λ r. ⌜ Cases r (has label (labels (now (places .entry))) ≡ false) (λ k. FirstAt label (labels (now (places .entry))) k) ⌝ }
+{
+    for (i, place) in places.iter().enumerate() {
+        if place.label == label {
+            return Some(i);
+        }
+    }
+    None
+}

@@ -1,0 +1,9 @@
+pub mod Longest
+pub mod Walks
+pub mod Finds
+pub mod Visits
+pub mod Nodes
+pub mod Same
+pub mod Standings
+pub mod Keys
+pub mod Worked

@@ -1,0 +1,5 @@
+pub mod Prefixes
+pub mod Shape
+pub mod Search
+pub mod Laws
+pub mod Worked
