@@ -9,8 +9,7 @@ use Rattle.filters.specs.declared.filter.Record.{Record}
 
 -- the labels of places, in their order
 abbrev pub labels : {D S P : Type 0} → List (Record D S P) → List ℕ
-labels [] = []
-labels (r ∷ rs) = r .label ∷ labels rs
+labels rs = map (λ r. r .label) rs
 
 -- n is among the labels
 abbrev pub has : ℕ → List ℕ → Bool

@@ -1,1 +1,136 @@
-// The filter book.
+// The filter book: filters of any kinds, in memory that is handed in.
+ghost use Prim.Native.Nat.{ℕ, _+_, _-_, _≤_, _<_};
+ghost use mathlib.Core.Bool.{true, false};
+ghost use mathlib.Core.List.{[], _∷_, _++_};
+ghost use mathlib.Core.Path.{_≡_};
+ghost use denote.Ref.{now};
+ghost use lib.ListN.{length, getD, set, take, drop};
+ghost use Rattle.std.specs.declared.option.Option.the-variants.{Some, None};
+ghost use Rattle.std.specs.Options.{Cases, mapped};
+ghost use Rattle.std.specs.Vec.{listOf};
+ghost use Rattle.filters.specs.declared.filter.Filter.{Filter};
+ghost use Rattle.filters.specs.declared.filter.Record.{Record};
+ghost use Rattle.filters.specs.Meaning.{recordOf, ruleOf, held, rules};
+ghost use Rattle.filters.specs.Refusals.{filterVerdict};
+ghost use Rattle.filters.specs.Rules.{Rule};
+ghost use Rattle.book.specs.Labels.{labels, has, apart, without, FirstAt};
+ghost use Rattle.book.specs.Books.{capacityOf, addVerdict, withdrawVerdict, after};
+use crate::fault::AddFault;
+use crate::fault::AddFaultFromFilter;
+use crate::fault::WithdrawFault;
+use crate::memory::close;
+use crate::memory::filter_at;
+use crate::memory::find;
+use crate::memory::put;
+use filters::check::check_filter;
+use filters::convert::to_record;
+use filters::filter::Filter;
+use filters::filter::Record;
+use kinds::address::Address;
+use kinds::cost::Cost;
+
+// The most filters that a book holds.
+const MOST: usize = 4095;
+
+// A book of filters with destinations of kind D, sources of kind S and costs of kind C.
+#[derive(Drop)]
+pub struct Book<'m, D: Address, S: Address, C: Cost> {
+    places: &'m mut [Record<D::Pattern, S::Pattern, C::Pattern>],
+    used: usize,
+    ghost fits: { used ≤ length (now places) },
+    ghost few: { used ≤ 4095 },
+    ghost lawful: { apart (labels (take used (now places))) ≡ true },
+}
+
+impl<'m, D: Address, S: Address, C: Cost> Book<'m, D, S, C> {
+    // An empty book; the memory stays as found.
+    pub fn new(places: &'m mut [Record<D::Pattern, S::Pattern, C::Pattern>]) -> Self
+        ensures { λ r. ⌜ r .used ≡ 0 ⌝ ∗ ⌜ now (r .places) ≡ now (places .entry) ⌝ }
+    {
+        Book { places, used: 0 }
+    }
+
+    // How many filters are in the book.
+    pub fn len(&self) -> usize
+        ensures { λ r. ⌜ r ≡ now (self .entry) .used ⌝ }
+    {
+        self.used
+    }
+
+    // How many filters there is room for.
+    pub fn capacity(&self) -> usize
+        ensures { λ r. ⌜ r ≡ capacityOf (length (now (now (self .entry) .places))) ⌝ }
+    {
+        self.places.len().min(MOST)
+    }
+
+    // Empties the book; the memory stays as found.
+    pub fn clear(&mut self)
+        ensures count { λ _. ⌜ now (self .exit) .used ≡ 0 ⌝ }
+        ensures memory { λ _. ⌜ now (now (self .exit) .places) ≡ now (now (self .entry) .places) ⌝ }
+    {
+        self.used = 0;
+    }
+
+    // Whether a filter of the book has the label.
+    pub fn contains(&self, label: u16) -> bool
+        ensures { λ r. ⌜ r ≡ has label (labels (take (now (self .entry) .used) (now (now (self .entry) .places)))) ⌝ }
+    {
+        self.place_of(label).is_some()
+    }
+
+    // The places in use, in the book's order.
+    pub fn records(&self) -> &[Record<D::Pattern, S::Pattern, C::Pattern>]
+        ensures { λ r. ⌜ now r ≡ take (now (self .entry) .used) (now (now (self .entry) .places)) ⌝ }
+    {
+        &self.places[0..self.used]
+    }
+
+    // The place of a filter by its label.
+    fn place_of(&self, label: u16) -> Option<usize>
+        ensures { λ r. ⌜ Cases r (has label (labels (take (now (self .entry) .used) (now (now (self .entry) .places)))) ≡ false) (λ k. FirstAt label (labels (take (now (self .entry) .used) (now (now (self .entry) .places)))) k) ⌝ }
+    {
+        find(&self.places[0..self.used], label)
+    }
+
+    // The filter at a place, counted from 0: what was put in; none behind the last.
+    pub fn get(&self, at: usize) -> Option<Filter<D, S, C>>
+        ensures meaning { λ r. ⌜ listOf (mapped (ruleOf (D·Address .string) (S·Address .string)) r) ≡ rules (D·Address .spells) (S·Address .spells) (C·Written .reads) (take 1 (drop at (take (now (self .entry) .used) (now (now (self .entry) .places))))) ⌝ }
+        ensures back { λ r. ⌜ ((f : Filter D S C) → take 1 (drop at (take (now (self .entry) .used) (now (now (self .entry) .places)))) ≡ recordOf (D·Written .pattern) (S·Written .pattern) (C·Written .pattern) f ∷ [] → r ≡ Some f) ⌝ }
+    {
+        filter_at(self.records(), at)
+    }
+
+    // Puts a filter behind the last. A refused filter changes nothing.
+    pub fn add(&mut self, filter: &Filter<D, S, C>) -> Result<(), AddFault>
+        ensures answer { λ r. ⌜ r ≡ addVerdict (capacityOf (length (now (now (self .entry) .places)))) (now (self .entry) .used) (filterVerdict (D·Address .string) (S·Address .string) (D·Address .width) (S·Address .width) (has (now (filter .entry) .label) (labels (take (now (self .entry) .used) (now (now (self .entry) .places))))) (now (filter .entry))) ⌝ }
+        ensures memory { λ r. ⌜ now (now (self .exit) .places) ≡ after r (set (now (now (self .entry) .places)) (now (self .entry) .used) (recordOf (D·Written .pattern) (S·Written .pattern) (C·Written .pattern) (now (filter .entry)))) (now (now (self .entry) .places)) ⌝ }
+        ensures count { λ r. ⌜ now (self .exit) .used ≡ after r (now (self .entry) .used + 1) (now (self .entry) .used) ⌝ }
+    {
+        check_filter(filter, self.contains(filter.label))?;
+        if self.used >= self.capacity() {
+            return Err(AddFault::Full);
+        }
+        let record = to_record(filter);
+        let Book { places, used } = self;
+        put(places, *used, record);
+        *used += 1;
+        Ok(())
+    }
+
+    // Takes out the filter of a label: later filters move down by one place, and the last place used keeps its content.
+    pub fn withdraw(&mut self, label: u16) -> Result<(), WithdrawFault>
+        ensures answer { λ r. ⌜ r ≡ withdrawVerdict (has label (labels (take (now (self .entry) .used) (now (now (self .entry) .places))))) ⌝ }
+        ensures memory { λ r. ⌜ now (now (self .exit) .places) ≡ after r (without (λ x. x .label) label (take (now (self .entry) .used) (now (now (self .entry) .places))) ++ drop (now (self .entry) .used - 1) (now (now (self .entry) .places))) (now (now (self .entry) .places)) ⌝ }
+        ensures count { λ r. ⌜ now (self .exit) .used ≡ after r (now (self .entry) .used - 1) (now (self .entry) .used) ⌝ }
+    {
+        let Some(at) = self.place_of(label) else {
+            return Err(WithdrawFault::UnknownLabel);
+        };
+        let left = self.used - 1 - at;
+        let Book { places, used } = self;
+        close(places, at, left);
+        *used = at + left;
+        Ok(())
+    }
+}

@@ -27,9 +27,9 @@ impl AddFault {
 }
 
 pub impl From<FilterFault> for AddFault as AddFaultFromFilter {
-    fn from(fault: FilterFault) -> AddFault
-        ensures { λ r. ⌜ r ≡ Filter fault ⌝ }
-    {
+    ghost converts = { λ fault r. r ≡ Filter fault };
+
+    fn from(fault: FilterFault) -> AddFault {
         AddFault::Filter(fault)
     }
 }

@@ -1,12 +1,21 @@
 // Writing places of memory that is lent.
 ghost use Prim.Native.Nat.{ℕ, suc, _+_, _<_};
 ghost use mathlib.Core.Bool.{false};
+ghost use mathlib.Core.List.{[], _∷_};
 ghost use mathlib.Core.Path.{_≡_};
-ghost use lib.ListN.{length, set, drop};
+ghost use lib.ListN.{length, set, take, drop};
 ghost use lib.Seq.{paste};
-ghost use Rattle.std.specs.Options.{Cases};
+ghost use Rattle.std.specs.declared.option.Option.the-variants.{Some};
+ghost use Rattle.std.specs.Options.{Cases, mapped};
+ghost use Rattle.std.specs.Vec.{listOf};
+ghost use Rattle.filters.specs.declared.filter.Filter.{Filter};
+ghost use Rattle.filters.specs.Meaning.{recordOf, ruleOf, rules};
 ghost use Rattle.book.specs.Labels.{labels, has, FirstAt};
+use filters::convert::to_filter;
+use filters::filter::Filter;
 use filters::filter::Record;
+use kinds::address::Address;
+use kinds::cost::Cost;
 
 // Writes one place.
 pub(crate) fn put<R: Copy>(places: &mut [R], at: usize, value: R)
@@ -37,4 +46,15 @@ pub(crate) fn find<D: Copy, S: Copy, C: Copy>(places: &[Record<D, S, C>], label:
         }
     }
     None
+}
+
+// The filter that a place holds; none behind the last place.
+pub(crate) fn filter_at<D: Address, S: Address, C: Cost>(places: &[Record<D::Pattern, S::Pattern, C::Pattern>], at: usize) -> Option<Filter<D, S, C>>
+    ensures meaning { λ r. ⌜ listOf (mapped (ruleOf (D·Address .string) (S·Address .string)) r) ≡ rules (D·Address .spells) (S·Address .spells) (C·Written .reads) (take 1 (drop at (now (places .entry)))) ⌝ }
+    ensures back { λ r. ⌜ ((f : Filter D S C) → take 1 (drop at (now (places .entry))) ≡ recordOf (D·Written .pattern) (S·Written .pattern) (C·Written .pattern) f ∷ [] → r ≡ Some f) ⌝ }
+{
+    if at >= places.len() {
+        return None;
+    }
+    to_filter(&places[at]).ok()
 }

@@ -1,0 +1,37 @@
+use Prim.Native.Nat.{ℕ, _<_, _≤_, min}
+use mathlib.Core.Bool.{Bool, false}
+use mathlib.Core.Path.{_≡_, refl, sym, ap, subst, _∙_}
+use native.Mathlib.Omega.{arith}
+use borrow.Author.Needs.{needs}
+use lib.Dec.{eqb}
+use lib.ListN.{length, take, length-set}
+use Rattle.filters.specs.declared.filter.Record.{Record}
+use Rattle.filters.specs.Refusals.{bodyVerdict, filterVerdict}
+use Rattle.book.specs.Labels.{labels, has}
+use Rattle.book.specs.Books.{capacityOf}
+use Rattle.book.proofs.Adding.{accepted, still-apart, full}
+use Rattle.book.proofs.book.Book.add.Needs as need
+
+pub returns-then-self-capacity : need.returns-then-self-capacity
+returns-then-self-capacity g c =
+    record
+    { answer =
+        full (capacityOf (length (c .args .self .now .places .now))) (c .args .self .now .used) (filterVerdict (g .D·Address .string) (g .S·Address .string) (g .D·Address .width) (g .S·Address .width) (has (c .args .filter .now .label) (labels (take (c .args .self .now .used) (c .args .self .now .places .now)))) (c .args .filter .now)) (c .in-Continue-check-filter .field-0)
+        (ap (λ (b : Bool). filterVerdict (g .D·Address .string) (g .S·Address .string) (g .D·Address .width) (g .S·Address .width) b (c .args .filter .now)) (sym (c .contains .ensures)) ∙ sym (c .check-filter .ensures) ∙ c .in-Continue-check-filter .was tt)
+        (omega (arith, c .capacity .ensures))
+    ; memory = refl
+    ; count = refl
+    }
+
+pub ghost-self : need.ghost-self
+ghost-self g c =
+    let a = accepted (c .args .filter .now .label) (c .contains .result) (bodyVerdict (g .D·Address .string) (g .S·Address .string) (g .D·Address .width) (g .S·Address .width) (c .args .filter .now .destination) (c .args .filter .now .source) (c .args .filter .now .directive)) (c .in-Continue-check-filter .field-0) (sym (c .check-filter .ensures) ∙ c .in-Continue-check-filter .was tt) in
+    let l : c .to-record-record .result .label ≡ c .args .filter .now .label = ap (λ (r : Record (g .D·Pattern .Denot) (g .S·Pattern .Denot) (g .C·Pattern .Denot)). r .label) (c .to-record-record .ensures) in
+    let m = length-set (c .args .self .now .places .now) (c .args .self .now .used) (c .to-record-record .result) in
+    let n = ap length (c .put .ensures) in
+    ( omega (arith, c .capacity .ensures)
+    , ( omega (arith, c .capacity .ensures)
+      , ( still-apart (c .args .self .now .places .now) (c .put .last .places) (c .args .self .now .used) (c .to-record-record .result) (omega (arith, c .capacity .ensures)) (c .put .ensures) (c .args .self .now .lawful)
+          (ap (λ (x : ℕ). eqb x 0) l ∙ a .0)
+          (ap (λ (x : ℕ). has x (labels (take (c .args .self .now .used) (c .args .self .now .places .now)))) l ∙ sym (c .contains .ensures) ∙ a .1)
+        , tt )))
