@@ -9,8 +9,8 @@ use lib.ListN.{length, set, take}
 use Rattle.std.specs.declared.result.Result.{Result}
 use Rattle.std.specs.declared.result.Result.the-variants.{Ok, Err}
 use Rattle.std.proofs.shelf.Lists.{take-more-set}
-use Rattle.std.proofs.shelf.Tests.{and-parts, and-from, or-from, or-parts, ne-eqb, eq-eqb, not-true, not-from-false, both-ways, le-ltb, cases-bool, eqb-false}
-use mathlib.Core.Logic.{inl, inr}
+use Rattle.std.proofs.shelf.Tests.{and-parts, and-from, or-from, or-parts, ne-eqb, eq-eqb, not-true, not-from-false, le-ltb, lt-ltb, eqb-false}
+
 use Rattle.filters.specs.declared.fault.FilterFault.{FilterFault}
 use Rattle.filters.specs.declared.fault.FilterFault.the-variants.{ZeroLabel, LabelInUse}
 use Rattle.filters.specs.declared.filter.Record.{Record}
@@ -59,3 +59,8 @@ module _ {D S P : Type 0} where
 pub full : (capacity used : ℕ) (v : Result (Unit {0}) FilterFault) (x : Unit {0}) → v ≡ Ok x → capacity ≤ used → _≡_ {A = Result (Unit {0}) AddFault} (Err Full) (addVerdict capacity used v)
 full capacity used v x e h =
     sym (ap (addVerdict capacity used) e ∙ ap (λ (t : Bool). cond {A = Result (Unit {0}) AddFault} t (Ok tt) (Err Full)) (le-ltb used capacity h))
+
+-- a filter that is accepted and finds room
+pub room : (capacity used : ℕ) (v : Result (Unit {0}) FilterFault) (x : Unit {0}) → v ≡ Ok x → used < capacity → _≡_ {A = Result (Unit {0}) AddFault} (Ok tt) (addVerdict capacity used v)
+room capacity used v x e h =
+    sym (ap (addVerdict capacity used) e ∙ ap (λ (t : Bool). cond {A = Result (Unit {0}) AddFault} t (Ok tt) (Err Full)) (lt-ltb used capacity h))

@@ -3,3 +3,4 @@ pub mod Found
 pub mod Adding
 pub mod Single
 pub mod Withdrawing
+pub mod Means

@@ -106,6 +106,7 @@ impl<'m, D: Address, S: Address, C: Cost> Book<'m, D, S, C> {
         ensures answer { λ r. ⌜ r ≡ addVerdict (capacityOf (length (now (now (self .entry) .places)))) (now (self .entry) .used) (filterVerdict (D·Address .string) (S·Address .string) (D·Address .width) (S·Address .width) (has (now (filter .entry) .label) (labels (take (now (self .entry) .used) (now (now (self .entry) .places))))) (now (filter .entry))) ⌝ }
         ensures memory { λ r. ⌜ now (now (self .exit) .places) ≡ after r (set (now (now (self .entry) .places)) (now (self .entry) .used) (recordOf (D·Written .pattern) (S·Written .pattern) (C·Written .pattern) (now (filter .entry)))) (now (now (self .entry) .places)) ⌝ }
         ensures count { λ r. ⌜ now (self .exit) .used ≡ after r (now (self .entry) .used + 1) (now (self .entry) .used) ⌝ }
+        ensures meaning { λ r. ⌜ rules (D·Address .spells) (S·Address .spells) (C·Written .reads) (take (now (self .exit) .used) (now (now (self .exit) .places))) ≡ after r (rules (D·Address .spells) (S·Address .spells) (C·Written .reads) (take (now (self .entry) .used) (now (now (self .entry) .places))) ++ ruleOf (D·Address .string) (S·Address .string) (now (filter .entry)) ∷ []) (rules (D·Address .spells) (S·Address .spells) (C·Written .reads) (take (now (self .entry) .used) (now (now (self .entry) .places)))) ⌝ }
     {
         check_filter(filter, self.contains(filter.label))?;
         if self.used >= self.capacity() {
@@ -123,6 +124,7 @@ impl<'m, D: Address, S: Address, C: Cost> Book<'m, D, S, C> {
         ensures answer { λ r. ⌜ r ≡ withdrawVerdict (has label (labels (take (now (self .entry) .used) (now (now (self .entry) .places))))) ⌝ }
         ensures memory { λ r. ⌜ now (now (self .exit) .places) ≡ after r (without (λ x. x .label) label (take (now (self .entry) .used) (now (now (self .entry) .places))) ++ drop (now (self .entry) .used - 1) (now (now (self .entry) .places))) (now (now (self .entry) .places)) ⌝ }
         ensures count { λ r. ⌜ now (self .exit) .used ≡ after r (now (self .entry) .used - 1) (now (self .entry) .used) ⌝ }
+        ensures meaning { λ r. ⌜ rules (D·Address .spells) (S·Address .spells) (C·Written .reads) (take (now (self .exit) .used) (now (now (self .exit) .places))) ≡ after r (without (λ f. f .label) label (rules (D·Address .spells) (S·Address .spells) (C·Written .reads) (take (now (self .entry) .used) (now (now (self .entry) .places))))) (rules (D·Address .spells) (S·Address .spells) (C·Written .reads) (take (now (self .entry) .used) (now (now (self .entry) .places)))) ⌝ }
     {
         let Some(at) = self.place_of(label) else {
             return Err(WithdrawFault::UnknownLabel);

@@ -4,12 +4,13 @@ use mathlib.Core.Path.{_≡_, refl, sym, ap, subst, _∙_}
 use native.Mathlib.Omega.{arith}
 use borrow.Author.Needs.{needs}
 use lib.Dec.{eqb}
-use lib.ListN.{length, take, length-set}
+use lib.ListN.{length, take, set, length-set}
 use Rattle.filters.specs.declared.filter.Record.{Record}
 use Rattle.filters.specs.Refusals.{bodyVerdict, filterVerdict}
 use Rattle.book.specs.Labels.{labels, has}
 use Rattle.book.specs.Books.{capacityOf}
-use Rattle.book.proofs.Adding.{accepted, still-apart, full}
+use Rattle.book.proofs.Adding.{accepted, still-apart, full, room}
+use Rattle.book.proofs.Means.{rules-added}
 use Rattle.book.proofs.book.Book.add.Needs as need
 
 pub returns-then-self-capacity : need.returns-then-self-capacity
@@ -21,6 +22,22 @@ returns-then-self-capacity g c =
         (omega (arith, c .capacity .ensures))
     ; memory = refl
     ; count = refl
+    ; meaning = refl
+    }
+
+pub returns : need.returns
+returns g c =
+    record
+    { answer =
+        room (capacityOf (length (c .args .self .now .places .now))) (c .args .self .now .used) (filterVerdict (g .D·Address .string) (g .S·Address .string) (g .D·Address .width) (g .S·Address .width) (has (c .args .filter .now .label) (labels (take (c .args .self .now .used) (c .args .self .now .places .now)))) (c .args .filter .now)) (c .in-Continue-check-filter .field-0)
+        (ap (λ (b : Bool). filterVerdict (g .D·Address .string) (g .S·Address .string) (g .D·Address .width) (g .S·Address .width) b (c .args .filter .now)) (sym (c .contains .ensures)) ∙ sym (c .check-filter .ensures) ∙ c .in-Continue-check-filter .was tt)
+        (omega (arith, c .capacity .ensures))
+    ; memory = c .put .ensures ∙ ap (set (c .args .self .now .places .now) (c .args .self .now .used)) (c .to-record-record .ensures)
+    ; count = refl
+    ; meaning =
+        rules-added (g .D·Address .spells) (g .S·Address .spells) (g .C·Written .reads) (g .D·Address .string) (g .S·Address .string) (g .D·Written .pattern) (g .S·Written .pattern) (g .C·Written .pattern) (g .D·Address·met .spelt) (g .S·Address·met .spelt) (g .C·Written·met .again) (c .args .self .now .places .now) (c .put .last .places) (c .args .self .now .used) (c .args .filter .now)
+        (omega (arith, c .capacity .ensures))
+        (c .put .ensures ∙ ap (set (c .args .self .now .places .now) (c .args .self .now .used)) (c .to-record-record .ensures))
     }
 
 pub ghost-self : need.ghost-self
