@@ -54,15 +54,7 @@ tariff-again x h = same-tariff (omega arith) (omega arith) _ _ _ _
 pub tariff-back : (n : ℕ) (h : n < 10 * 2 ^ 28) → priced (tariffOf n h) ≡ n
 tariff-back n h = omega arith
 
--- the fields shifted to their places and joined are the packed number
-pub packed-or : (x : Socket) → bitOr (bitOr (x .hall * 4096 % 65536) (x .row * 64 % 65536)) (x .socket) ≡ packed x
-packed-or x =
-    let a : x .hall * 4096 % 65536 ≡ x .hall * 4096 = omega arith in
-    let b : x .row * 64 % 65536 ≡ x .row * 64 = omega arith in
-    let s : x .row * 64 < 2 ^ 12 = omega arith in
-    let j : (x .hall * 64 + x .row) * 64 ≡ x .hall * 4096 + x .row * 64 = omega arith in
-    rw (a, b, or-shifted (x .hall) 12 (x .row * 64) s, ← j, or-shifted (x .hall * 64 + x .row) 6 (x .socket) (x .sockets)) (omega arith)
-
+-- class and price shifted to their places and joined are the packed number
 pub priced-or : (x : Tariff) → bitOr (x .class * 268435456 % 4294967296) (x .price) ≡ priced x
 priced-or x =
     let a : x .class * 268435456 % 4294967296 ≡ x .class * 268435456 = omega arith in

@@ -26,7 +26,7 @@ abbrev pub snoc : Str → Bool → Str
 snoc s b = s ++ b ∷ []
 
 -- whether 2 ^ k is among the powers of two that add up to n
-unfoldable pub weighs : ℕ → ℕ → Bool
+abbrev pub weighs : ℕ → ℕ → Bool
 weighs n k = eqb (n / 2 ^ k % 2) 1
 
 -- the string of the lowest w bits of n, the most significant first

@@ -1,7 +1,7 @@
 // IPv4 addresses: kind 1, 32 bits.
 ghost use Prim.Native.Nat.{ℕ, _^_, _<_};
 ghost use mathlib.Core.Path.{_≡_};
-ghost use Rattle.kinds.specs.Strings.{bits};
+ghost use Rattle.kinds.specs.Strings.{bits, weighs};
 ghost use Rattle.kinds.specs.Patterns.{below};
 use crate::address::Address;
 use crate::plain::U32Plain;
@@ -28,6 +28,14 @@ impl Ipv4 {
     {
         self.number
     }
+
+    // Whether the bit of this weight is set: 2 ^ weight is among the powers of two that add up to the number.
+    fn has_bit(&self, weight: u32) -> bool
+        requires { ⌜ weight < 32 ⌝ }
+        ensures { λ r. ⌜ r ≡ weighs (now (self .entry) .number) weight ⌝ }
+    {
+        (self.number >> weight) % 2 == 1
+    }
 }
 
 pub impl Written for Ipv4 as Ipv4Written {
@@ -53,7 +61,7 @@ pub impl Written for Ipv4 as Ipv4Written {
     }
 
     fn write(&self) -> u32 {
-        self.number
+        self.to_bits()
     }
 }
 
@@ -73,6 +81,6 @@ pub impl Address for Ipv4 as Ipv4Address {
     }
 
     fn bit(&self, i: u32) -> bool {
-        if i < Self::WIDTH { (self.number >> (31 - i)) % 2 == 1 } else { false }
+        if i < Self::WIDTH { self.has_bit(31 - i) } else { false }
     }
 }

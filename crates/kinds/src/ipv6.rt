@@ -1,7 +1,7 @@
 // IPv6 addresses: kind 2, 128 bits.
 ghost use Prim.Native.Nat.{ℕ, _^_, _<_};
 ghost use mathlib.Core.Path.{_≡_};
-ghost use Rattle.kinds.specs.Strings.{bits};
+ghost use Rattle.kinds.specs.Strings.{bits, weighs};
 ghost use Rattle.kinds.specs.Patterns.{below};
 use crate::address::Address;
 use crate::plain::U128Plain;
@@ -28,6 +28,14 @@ impl Ipv6 {
     {
         self.number
     }
+
+    // Whether the bit of this weight is set: 2 ^ weight is among the powers of two that add up to the number.
+    fn has_bit(&self, weight: u32) -> bool
+        requires { ⌜ weight < 128 ⌝ }
+        ensures { λ r. ⌜ r ≡ weighs (now (self .entry) .number) weight ⌝ }
+    {
+        (self.number >> weight) % 2 == 1
+    }
 }
 
 pub impl Written for Ipv6 as Ipv6Written {
@@ -53,7 +61,7 @@ pub impl Written for Ipv6 as Ipv6Written {
     }
 
     fn write(&self) -> u128 {
-        self.number
+        self.to_bits()
     }
 }
 
@@ -73,6 +81,6 @@ pub impl Address for Ipv6 as Ipv6Address {
     }
 
     fn bit(&self, i: u32) -> bool {
-        if i < Self::WIDTH { (self.number >> (127 - i)) % 2 == 1 } else { false }
+        if i < Self::WIDTH { self.has_bit(127 - i) } else { false }
     }
 }

@@ -25,7 +25,7 @@ impl Rank {
     pub fn number(&self) -> u32
         ensures { λ r. ⌜ r ≡ now (self .entry) .number ⌝ }
     {
-        self.number
+        self.write()
     }
 
     // How two ranks compare: as their numbers do.

@@ -52,8 +52,30 @@ impl Socket {
     fn unpack(from: u16) -> Socket
         ensures { λ r. ⌜ r .hall * 4096 + r .row * 64 + r .socket ≡ from ⌝ }
     {
-        Socket { hall: (from >> 12) as u8, row: ((from >> 6) & 63) as u8, socket: (from & 63) as u8 }
+        Socket { hall: (from >> 12) as u8, row: low_six(from >> 6) as u8, socket: low_six(from) as u8 }
     }
+
+    // The number into which the socket is packed.
+    fn pack(&self) -> u16
+        ensures { λ r. ⌜ r ≡ now (self .entry) .hall * 4096 + now (self .entry) .row * 64 + now (self .entry) .socket ⌝ }
+    {
+        join(join(self.hall as u16, self.row as u16), self.socket as u16)
+    }
+}
+
+// The lowest six bits.
+fn low_six(n: u16) -> u16
+    ensures { λ r. ⌜ r ≡ n % 64 ⌝ }
+{
+    n & 63
+}
+
+// A field of six bits behind what stands before it.
+fn join(before: u16, field: u16) -> u16
+    requires { ⌜ before < 1024 ⌝ ∗ ⌜ field < 64 ⌝ }
+    ensures { λ r. ⌜ r ≡ before * 64 + field ⌝ }
+{
+    before << 6 | field
 }
 
 pub impl Written for Socket as SocketWritten {
@@ -79,7 +101,7 @@ pub impl Written for Socket as SocketWritten {
     }
 
     fn write(&self) -> u16 {
-        (self.hall as u16) << 12 | (self.row as u16) << 6 | self.socket as u16
+        self.pack()
     }
 }
 
@@ -99,7 +121,7 @@ pub impl Address for Socket as SocketAddress {
     }
 
     fn bit(&self, i: u32) -> bool {
-        let all = self.write();
+        let all = self.pack();
         if i < Self::WIDTH { (all >> (15 - i)) % 2 == 1 } else { false }
     }
 }

@@ -1,5 +1,5 @@
 // Tariffs: cost kind 2, a class from 0 to 9 (4 bits) and a price (28 bits); the smaller class is before, then the smaller price.
-ghost use Prim.Native.Nat.{ℕ, _+_, _*_, _/_, _%_, _^_, _<_};
+ghost use Prim.Native.Nat.{ℕ, _+_, _*_, _/_, _%_, _^_, _≤_, _<_};
 ghost use mathlib.Core.Path.{_≡_};
 ghost use Rattle.std.specs.Options.{Cases};
 ghost use Rattle.std.specs.Orderings.{thenBy};
@@ -46,6 +46,21 @@ impl Tariff {
     {
         self.compare(other)
     }
+
+    // The tariff that is packed into a number, or none where its class is too large.
+    fn unpack(from: u32) -> Option<Tariff>
+        ensures { λ r. ⌜ Cases r (10 * 2 ^ 28 ≤ from) (λ x. x .class * 2 ^ 28 + x .price ≡ from) ⌝ }
+    {
+        let class = (from >> 28) as u8;
+        if class < 10 { Some(Tariff { class, price: low_28(from) }) } else { None }
+    }
+}
+
+// The lowest 28 bits.
+fn low_28(n: u32) -> u32
+    ensures { λ r. ⌜ r ≡ n % 2 ^ 28 ⌝ }
+{
+    n & 0x0fff_ffff
 }
 
 pub impl Written for Tariff as TariffWritten {
@@ -67,11 +82,9 @@ pub impl Written for Tariff as TariffWritten {
     }
 
     fn read(from: u32) -> Result<Self, PatternFault> {
-        let class = (from >> 28) as u8;
-        if class < 10 {
-            Ok(Tariff { class, price: from & 0x0fff_ffff })
-        } else {
-            Err(PatternFault::Unlawful)
+        match Tariff::unpack(from) {
+            Some(tariff) => Ok(tariff),
+            None => Err(PatternFault::Unlawful),
         }
     }
 
@@ -84,6 +97,7 @@ pub impl Cost for Tariff as TariffCost {
     ghost order = { λ x y. thenBy (byNumber (x .class) (y .class)) (byNumber (x .price) (y .price)) };
 
     fn compare(&self, other: &Self) -> Ordering {
-        self.class.cmp(&other.class).then(self.price.cmp(&other.price))
+        let classes = self.class.cmp(&other.class);
+        classes.then(self.price.cmp(&other.price))
     }
 }

@@ -1,22 +1,17 @@
-use Prim.Native.Nat.{ℕ, suc, min, _<_}
 use mathlib.Core.Bool.{true, false, Bool·beq}
-use mathlib.Core.Path.{_≡_, sym, ap, _∙_}
+use mathlib.Core.Path.{_≡_, sym, _∙_}
 use native.Mathlib.Numerals.{add-one}
 use native.Mathlib.Omega.{arith}
-use lib.ListN.{getD, take}
-use Rattle.std.proofs.shelf.Tests.{not-false, not-true}
-use Rattle.kinds.specs.Strings.{starts}
+use lib.ListN.{getD}
 use Rattle.kinds.proofs.Agree.{agree-more, agree-apart, cut-whole}
 use Rattle.kinds.proofs.prefix.is_prefix.Needs as need
 
-pub returns-then-bit : need.returns-then-bit
-returns-then-bit g c =
+pub returns-then-not-agree-at : need.returns-then-not-agree-at
+returns-then-not-agree-at g c =
     let p = g .A·Address .string (c .args .prefix .now) in
     let a = g .A·Address .string (c .args .address .now) in
     let l = g .A·Address·met .long (c .args .prefix .now) ∙ sym (g .A·Address·met .long (c .args .address .now)) in
-    let q : Bool·beq (getD p (c .loop-i .i) false) (getD a (c .loop-i .i) false) ≡ false =
-        rw (← c .bit .ensures, ← c .bit-in-loop-i .ensures) (not-true _ (c .if-bit .taken))
-    in
+    let q : Bool·beq (getD p (c .loop-i .i) false) (getD a (c .loop-i .i) false) ≡ false = sym (c .agree-at .ensures) ∙ c .if-not-agree-at .taken in
     sym (agree-apart (c .loop-i .i) (c .args .length) p a (omega (arith, c .min-i-end .ensures)) l q)
 
 pub loop-i-again : need.loop-i-again
@@ -24,9 +19,7 @@ loop-i-again g c =
     let p = g .A·Address .string (c .args .prefix .now) in
     let a = g .A·Address .string (c .args .address .now) in
     let l = g .A·Address·met .long (c .args .prefix .now) ∙ sym (g .A·Address·met .long (c .args .address .now)) in
-    let q : Bool·beq (getD p (c .loop-i .i) false) (getD a (c .loop-i .i) false) ≡ true =
-        rw (← c .bit .ensures, ← c .bit-in-loop-i .ensures) (not-false _ (c .if-bit .left))
-    in
+    let q : Bool·beq (getD p (c .loop-i .i) false) (getD a (c .loop-i .i) false) ≡ true = sym (c .agree-at .ensures) ∙ c .if-not-agree-at .left in
     rw add-one (agree-more (c .loop-i .i) p a l (c .loop-i .inv) q)
 
 pub returns : need.returns

@@ -1,11 +1,9 @@
-use mathlib.Core.Path.{sym}
-use Rattle.kinds.specs.Strings.{weighs}
+use mathlib.Core.Path.{sym, _∙_}
 use Rattle.kinds.proofs.Bits.{bits-at, bits-past}
 use Rattle.kinds.proofs.ipv4.Ipv4Address.bit.Needs as need
 
 pub returns-then-i-lt-WIDTH : need.returns-then-i-lt-WIDTH
-unfolding weighs
-returns-then-i-lt-WIDTH c = sym (bits-at 32 (c .args .self .now .number) (c .args .i) (c .if-i-lt-WIDTH .taken))
+returns-then-i-lt-WIDTH c = c .has-bit .ensures ∙ sym (bits-at 32 (c .args .self .now .number) (c .args .i) (c .if-i-lt-WIDTH .taken))
 
 pub returns-else-i-lt-WIDTH : need.returns-else-i-lt-WIDTH
 returns-else-i-lt-WIDTH c = bits-past 32 (c .args .self .now .number) (c .args .i) (c .if-i-lt-WIDTH .left)

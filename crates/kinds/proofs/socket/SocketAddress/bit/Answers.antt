@@ -6,9 +6,8 @@ use Rattle.kinds.proofs.Fields.{packed}
 use Rattle.kinds.proofs.socket.SocketAddress.bit.Needs as need
 
 pub returns-then-i-lt-WIDTH : need.returns-then-i-lt-WIDTH
-unfolding weighs
 returns-then-i-lt-WIDTH c =
-    ap (λ (n : ℕ). weighs n (15 - c .args .i)) (c .write-all .ensures) ∙ sym (bits-at 16 (packed (c .args .self .now)) (c .args .i) (c .if-i-lt-WIDTH .taken))
+    ap (λ (n : ℕ). weighs n (15 - c .args .i)) (c .pack-all .ensures) ∙ sym (bits-at 16 (packed (c .args .self .now)) (c .args .i) (c .if-i-lt-WIDTH .taken))
 
 pub returns-else-i-lt-WIDTH : need.returns-else-i-lt-WIDTH
 returns-else-i-lt-WIDTH c = bits-past 16 (packed (c .args .self .now)) (c .args .i) (c .if-i-lt-WIDTH .left)
