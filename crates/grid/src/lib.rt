@@ -1,0 +1,10 @@
+// The grid in memory that is handed in: its nodes, its making, and the searches of it.
+pub mod build;
+pub mod edit;
+mod fill;
+mod finish;
+pub mod grid;
+mod insert;
+pub mod node;
+pub mod search;
+mod span;
