@@ -47,6 +47,7 @@ pub impl Written for Ipv4 as Ipv4Written {
     ghost number = { λ p. p };
     ghost pattern = { λ x. x .number };
     ghost reads = { below (2 ^ 32) (λ n h. record { number = n; fits = h }) };
+    ghost value = { below (2 ^ 32) (λ n h. record { number = n; fits = h }) };
 
     fn kind() -> u8 {
         Self::CODE

@@ -45,6 +45,7 @@ pub impl Written for Rank as RankWritten {
     ghost number = { λ p. p };
     ghost pattern = { λ x. x .number };
     ghost reads = { below (2 ^ 32) (λ n h. record { number = n; fits = h }) };
+    ghost value = { below (2 ^ 32) (λ n h. record { number = n; fits = h }) };
 
     fn kind() -> u8 {
         Self::CODE

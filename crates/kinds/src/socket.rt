@@ -1,8 +1,6 @@
 // Sockets: kind 3, 16 bits. A socket of the venue has a hall (4 bits), a row (6 bits) and its place in the row (6 bits).
 ghost use Prim.Native.Nat.{ℕ, _+_, _*_, _/_, _%_, _^_, _<_};
-ghost use mathlib.Core.Bool.{true, _&&_};
 ghost use mathlib.Core.Path.{_≡_};
-ghost use lib.Dec.{ltb};
 ghost use Rattle.std.specs.Options.{Cases};
 ghost use Rattle.kinds.specs.Strings.{bits};
 ghost use Rattle.kinds.specs.Parts.{hall-fits, row-fits, socket-fits};
@@ -87,6 +85,7 @@ pub impl Written for Socket as SocketWritten {
     ghost number = { λ p. p };
     ghost pattern = { λ x. x .hall * 4096 + x .row * 64 + x .socket };
     ghost reads = { below (2 ^ 16) (λ n h. record { hall = n / 4096; row = n / 64 % 64; socket = n % 64; halls = hall-fits n h; rows = row-fits n; sockets = socket-fits n }) };
+    ghost value = { below (2 ^ 16) (λ n h. record { hall = n / 4096; row = n / 64 % 64; socket = n % 64; halls = hall-fits n h; rows = row-fits n; sockets = socket-fits n }) };
 
     fn kind() -> u8 {
         Self::CODE

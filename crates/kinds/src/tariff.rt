@@ -72,6 +72,7 @@ pub impl Written for Tariff as TariffWritten {
     ghost number = { λ p. p };
     ghost pattern = { λ x. x .class * 2 ^ 28 + x .price };
     ghost reads = { below (10 * 2 ^ 28) (λ n h. record { class = n / 2 ^ 28; price = n % 2 ^ 28; classes = class-fits n h; prices = price-fits n }) };
+    ghost value = { below (10 * 2 ^ 28) (λ n h. record { class = n / 2 ^ 28; price = n % 2 ^ 28; classes = class-fits n h; prices = price-fits n }) };
 
     fn kind() -> u8 {
         Self::CODE
