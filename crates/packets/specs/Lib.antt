@@ -1,0 +1,4 @@
+pub mod Refusals
+pub mod Header
+pub mod Datagram
+pub mod Facts

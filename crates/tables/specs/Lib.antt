@@ -1,0 +1,6 @@
+pub mod Bytes
+pub mod Faults
+pub mod Directives
+pub mod Format
+pub mod Verdict
+pub mod Memory
