@@ -17,7 +17,8 @@ use Rattle.filters.specs.declared.filter.Record.{Record}
 use Rattle.filters.specs.Refusals.{thenUsed}
 use Rattle.book.specs.declared.fault.AddFault.{AddFault}
 use Rattle.book.specs.declared.fault.AddFault.the-variants.{Full}
-use Rattle.book.specs.Labels.{labels, has, apart}
+use Rattle.tables.specs.Verdict.{has}
+use Rattle.book.specs.Labels.{labels, apart}
 use Rattle.book.specs.Books.{addVerdict}
 use Rattle.book.proofs.Found.{labels-append, has-append}
 

@@ -11,7 +11,8 @@ use Rattle.std.specs.declared.option.Option.{Option}
 use Rattle.std.specs.declared.option.Option.the-variants.{Some, None}
 use Rattle.std.specs.Options.{Cases, isSome}
 use Rattle.filters.specs.declared.filter.Record.{Record}
-use Rattle.book.specs.Labels.{labels, has, apart, without, FirstAt}
+use Rattle.tables.specs.Verdict.{has}
+use Rattle.book.specs.Labels.{labels, apart, without, FirstAt}
 
 module _ {D S P : Type 0} where
   pub length-labels : (rs : List (Record D S P)) → length (labels rs) ≡ length rs

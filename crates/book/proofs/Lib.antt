@@ -4,3 +4,4 @@ pub mod Adding
 pub mod Single
 pub mod Withdrawing
 pub mod Means
+pub mod Loading

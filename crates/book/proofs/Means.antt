@@ -19,7 +19,8 @@ use Rattle.filters.specs.Meaning.{recordOf, ruleOf, prefixOf, respelt, held, he
 use Rattle.filters.specs.Orders.{Each, Apart}
 use Rattle.filters.specs.Rules.{Rule}
 use Rattle.filters.proofs.Reading.{rules-append}
-use Rattle.book.specs.Labels.{labels, has, apart, without}
+use Rattle.tables.specs.Verdict.{has}
+use Rattle.book.specs.Labels.{labels, apart, without}
 
 -- a list without a label loses nothing when it is taken out
 pub without-none : {X : Type 0} (label : X → ℕ) (n : ℕ) (xs : List X) → has n (map label xs) ≡ false → without label n xs ≡ xs

@@ -11,7 +11,8 @@ use Rattle.std.proofs.shelf.Edits.{take-paste}
 use Rattle.std.proofs.shelf.Lists.{take-take, drop-take, length-drop, length-take-le}
 use Rattle.std.proofs.shelf.Tests.{and-parts, and-from, or-from, or-parts, not-true, not-from-false}
 use Rattle.filters.specs.declared.filter.Record.{Record}
-use Rattle.book.specs.Labels.{labels, has, apart, without, FirstAt}
+use Rattle.tables.specs.Verdict.{has}
+use Rattle.book.specs.Labels.{labels, apart, without, FirstAt}
 use Rattle.book.proofs.Found.{without-at, length-labels}
 
 module _ {X : Type 0} (label : X → ℕ) where

@@ -1,20 +1,16 @@
 -- Labels of a list of places: which occur, whether they are apart, and taking one out.
 use Prim.Native.Nat.{ℕ, _<_}
-use mathlib.Core.Bool.{Bool, true, false, cond, not, _&&_, _||_}
+use mathlib.Core.Bool.{Bool, true, false, cond, not, _&&_}
 use mathlib.Core.List.{List, [], _∷_, map}
 use mathlib.Core.Path.{_≡_}
 use lib.Dec.{eqb}
 use lib.ListN.{length, getD, take}
 use Rattle.filters.specs.declared.filter.Record.{Record}
+use Rattle.tables.specs.Verdict.{has}
 
 -- the labels of places, in their order
 abbrev pub labels : {D S P : Type 0} → List (Record D S P) → List ℕ
 labels rs = map (λ r. r .label) rs
-
--- n is among the labels
-abbrev pub has : ℕ → List ℕ → Bool
-has n [] = false
-has n (m ∷ ms) = eqb m n || has n ms
 
 -- no label is 0, and none stands twice
 abbrev pub apart : List ℕ → Bool

@@ -1,7 +1,7 @@
 // The filter book: filters of any kinds, in memory that is handed in.
 ghost use Prim.Native.Nat.{ℕ, _+_, _-_, _≤_, _<_};
 ghost use mathlib.Core.Bool.{true, false};
-ghost use mathlib.Core.List.{[], _∷_, _++_};
+ghost use mathlib.Core.List.{[], _∷_, _++_, map};
 ghost use mathlib.Core.Path.{_≡_};
 ghost use denote.Ref.{now};
 ghost use lib.ListN.{length, getD, set, take, drop};
@@ -13,7 +13,11 @@ ghost use Rattle.filters.specs.declared.filter.Record.{Record};
 ghost use Rattle.filters.specs.Meaning.{recordOf, ruleOf, held, rules};
 ghost use Rattle.filters.specs.Refusals.{filterVerdict};
 ghost use Rattle.filters.specs.Rules.{Rule};
-ghost use Rattle.book.specs.Labels.{labels, has, apart, without, FirstAt};
+ghost use Rattle.tables.specs.Verdict.{has};
+ghost use Rattle.book.specs.Labels.{labels, apart, without, FirstAt};
+ghost use Rattle.tables.specs.Format.{kind, entryOf, decode, encode};
+ghost use Rattle.tables.specs.Memory.{Loaded, writeVerdict, written};
+ghost use Rattle.book.specs.Loads.{countAfter, tableRules, loadVerdict};
 ghost use Rattle.book.specs.Books.{capacityOf, addVerdict, withdrawVerdict, after};
 use crate::fault::AddFault;
 use crate::fault::AddFaultFromFilter;
@@ -28,6 +32,10 @@ use filters::filter::Filter;
 use filters::filter::Record;
 use kinds::address::Address;
 use kinds::cost::Cost;
+use tables::fault::LoadFault;
+use tables::fault::WriteFault;
+use tables::load::load_table;
+use tables::write::write_table;
 
 // The most filters that a book holds.
 const MOST: usize = 4095;
@@ -134,5 +142,31 @@ impl<'m, D: Address, S: Address, C: Cost> Book<'m, D, S, C> {
         close(places, at, left);
         *used = at + left;
         Ok(())
+    }
+
+    // Makes the book exactly the filters of a table, in its order; places behind them stay. The whole table is checked before
+    // the first place is written, so a refused table changes nothing. It answers how many filters the table has.
+    pub fn load(&mut self, table: &[u8]) -> Result<usize, LoadFault>
+        ensures answer { λ r. ⌜ r ≡ loadVerdict (kind (D·Written .code) (D·Written .size)) (kind (S·Written .code) (S·Written .size)) (kind (C·Written .code) (C·Written .size)) (C·Written .value) (capacityOf (length (now (now (self .entry) .places)))) (now (table .entry)) ⌝ }
+        ensures memory { λ r. ⌜ Loaded (entryOf (D·Written .number) (S·Written .number) (C·Written .number)) (decode (kind (D·Written .code) (D·Written .size)) (kind (S·Written .code) (S·Written .size)) (kind (C·Written .code) (C·Written .size)) (now (table .entry))) (now (now (self .entry) .places)) (now (now (self .exit) .places)) r ⌝ }
+        ensures count { λ r. ⌜ now (self .exit) .used ≡ countAfter r (now (self .entry) .used) ⌝ }
+        ensures meaning { λ r. ⌜ rules (D·Address .spells) (S·Address .spells) (C·Written .reads) (take (now (self .exit) .used) (now (now (self .exit) .places))) ≡ after r (tableRules (kind (D·Written .code) (D·Written .size)) (kind (S·Written .code) (S·Written .size)) (kind (C·Written .code) (C·Written .size)) (C·Written .value) (now (table .entry))) (rules (D·Address .spells) (S·Address .spells) (C·Written .reads) (take (now (self .entry) .used) (now (now (self .entry) .places)))) ⌝ }
+    {
+        let Book { places, used } = self;
+        match load_table::<D, S, C>(table, places) {
+            Ok(count) => {
+                *used = count;
+                Ok(count)
+            }
+            Err(fault) => Err(fault),
+        }
+    }
+
+    // Writes the book as a table from the buffer's start, and answers how many bytes that is; book and later bytes stay.
+    pub fn write(&self, buffer: &mut [u8]) -> Result<usize, WriteFault>
+        ensures answer { λ r. ⌜ r ≡ writeVerdict (kind (D·Written .code) (D·Written .size)) (kind (S·Written .code) (S·Written .size)) (kind (C·Written .code) (C·Written .size)) (now (self .entry) .used) (length (now (buffer .entry))) ⌝ }
+        ensures memory { λ r. ⌜ now (buffer .exit) ≡ written r (encode (kind (D·Written .code) (D·Written .size)) (kind (S·Written .code) (S·Written .size)) (kind (C·Written .code) (C·Written .size)) (map (entryOf (D·Written .number) (S·Written .number) (C·Written .number)) (take (now (self .entry) .used) (now (now (self .entry) .places))))) (now (buffer .entry)) ⌝ }
+    {
+        write_table::<D, S, C>(self.records(), buffer)
     }
 }

@@ -8,7 +8,8 @@ use native.Mathlib.Omega.{arith}
 use lib.ListN.{length}
 use Rattle.std.proofs.shelf.Lists.{take-all}
 use Rattle.filters.specs.declared.filter.Record.{Record}
-use Rattle.book.specs.Labels.{labels, has}
+use Rattle.tables.specs.Verdict.{has}
+use Rattle.book.specs.Labels.{labels}
 use Rattle.book.proofs.Found.{length-labels, getD-labels, none-more}
 use Rattle.book.proofs.memory.find.Needs as need
 

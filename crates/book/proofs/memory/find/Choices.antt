@@ -1,7 +1,8 @@
 use mathlib.Core.Bool.{false}
 use mathlib.Core.Path.{_≡_}
 use lib.ListN.{take}
-use Rattle.book.specs.Labels.{labels, has}
+use Rattle.tables.specs.Verdict.{has}
+use Rattle.book.specs.Labels.{labels}
 use Rattle.book.proofs.memory.find.Given as given
 
 -- none of the places so far has the label

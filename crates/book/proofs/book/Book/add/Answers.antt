@@ -7,7 +7,8 @@ use lib.Dec.{eqb}
 use lib.ListN.{length, take, set, length-set}
 use Rattle.filters.specs.declared.filter.Record.{Record}
 use Rattle.filters.specs.Refusals.{bodyVerdict, filterVerdict}
-use Rattle.book.specs.Labels.{labels, has}
+use Rattle.tables.specs.Verdict.{has}
+use Rattle.book.specs.Labels.{labels}
 use Rattle.book.specs.Books.{capacityOf}
 use Rattle.book.proofs.Adding.{accepted, still-apart, full, room}
 use Rattle.book.proofs.Means.{rules-added}
