@@ -1,9 +1,9 @@
 -- A build: filters inserted, and the used part finished, make the derived grid.
-use Prim.Native.Nat.{ℕ, zero, suc, _+_, _-_, _<_, _≤_}
+use Prim.Native.Nat.{ℕ, zero, suc, _+_, _-_, _<_}
 use native.Mathlib.Omega.{arith}
 use mathlib.Core.Path.{_≡_, refl, sym, ap, subst, _∙_}
-use mathlib.Core.Logic.{_⊎_, inl, inr}
-use mathlib.Core.Bool.{Bool, true, false}
+use mathlib.Core.Logic.{inl, inr}
+use mathlib.Core.Bool.{Bool, true}
 use mathlib.Core.List.{List, [], _∷_, _++_, map}
 use lib.ListN.{length, take, drop, replicate}
 use Rattle.std.specs.declared.option.Option.{Option}
@@ -12,14 +12,14 @@ use Rattle.std.proofs.shelf.Lists.{length-append, length-drop, length-map, leng
 use Rattle.kinds.specs.Strings.{Str}
 use Rattle.filters.specs.declared.filter.Record.{Record}
 use Rattle.filters.specs.Rules.{Rule}
-use Rattle.filters.specs.Meaning.{prefixOf, held, heldAt, rules}
+use Rattle.filters.specs.Meaning.{held, heldAt, rules}
 use Rattle.filters.specs.Orders.{In, Apart, Order}
 use Rattle.tries.specs.Shape.{nodes as nodesOf}
 use Rattle.grid.specs.declared.node.Node.{Node}
 use Rattle.grid.specs.declared.node.Node.the-variants.{Empty}
-use Rattle.grid.specs.Nodes.{sound, bare}
-use Rattle.grid.specs.Derived.{Key, nodeOf, Derived}
-use Rattle.grid.specs.Build.{Safe, raw, State, ownOf, Filled}
+use Rattle.grid.specs.Nodes.{sound}
+use Rattle.grid.specs.Derived.{nodeOf, Derived}
+use Rattle.grid.specs.Build.{Safe, raw, ownOf, Filled}
 use Rattle.grid.specs.Finish.{finishBelow}
 use Rattle.grid.proofs.Fills.{in-either}
 use Rattle.grid.proofs.Finished.{all-done}
@@ -30,7 +30,7 @@ use Rattle.grid.proofs.Soundness.{sound-below, sound-take, safe-front, bare-is
 pub emptied : (u : ℕ) (N M : List Node) → Safe u N → M ≡ replicate u Empty ++ drop u N → M ≡ replicate (length M) Empty
 emptied u N M s e =
     let all : M ≡ replicate {A = Node} (u + length (drop u N)) Empty =
-        e ∙ ap (λ (r : List Node). replicate u Empty ++ r) (bare-is (drop u N) (s .rest)) ∙ replicate-append-replicate u (length (drop u N)) Empty in
+    e ∙ ap (λ (r : List Node). replicate u Empty ++ r) (bare-is (drop u N) (s .rest)) ∙ replicate-append-replicate u (length (drop u N)) Empty in
     let l : length M ≡ u + length (drop u N) = ap length all ∙ length-replicate-of (u + length (drop u N)) in
     all ∙ ap (λ (n : ℕ). replicate {A = Node} n Empty) (sym l)
   where
@@ -43,9 +43,10 @@ pub rules-short : {D S P C : Type 0} (dst : D → Str) (src : S → Str) (reads 
     → (xs : List (Record D S P)) (f : Rule C) → In f (rules dst src reads xs) → length (f .destination) < w + 1
 rules-short dst src reads w wide [] f h = absurd h
 rules-short {D} {S} {P} {C} dst src reads w wide (x ∷ xs) f h =
-    elim (in-either f (held dst src reads x) (rules dst src reads xs) h)
-    [ inl i ↦ at (reads (x .cost)) i
-    | inr i ↦ rules-short dst src reads w wide xs f i ]
+    elim (in-either f (held dst src reads x) (rules dst src reads xs) h) [
+      | inl i ↦ at (reads (x .cost)) i
+      | inr i ↦ rules-short dst src reads w wide xs f i
+    ]
   where
     at : (o : Option C) → In f (heldAt dst src reads x o) → length (f .destination) < w + 1
     at None i = absurd i
@@ -83,16 +84,16 @@ module _ {C : Type 0} (lt : Rule C → Rule C → Bool) (ord : Order lt) (F : Li
 
   pub built-grid : Apart F → Derived lt F (front ++ drop used N) used
   built-grid apart =
-      record
-      { keys = fill .keys
-      ; long = fill .state .long
-      ; distinct = fill .state .distinct
-      ; whole = fill .whole
-      ; rooted = fill .state .rooted
-      ; nodes =
-          ap (λ (M : List Node). M ++ drop used N) (is ∙ all-done lt ord F apart (fill .keys) (fill .state .distinct) (fill .whole) (fill .state .rooted) n short (take used N) front-is)
-          ∙ ap (λ (M : List Node). map (nodeOf lt F (fill .keys)) (fill .keys) ++ M) rest-is
-          ∙ ap (λ (k : ℕ). map (nodeOf lt F (fill .keys)) (fill .keys) ++ replicate k Empty) same
+      record {
+        keys = fill .keys;
+        long = fill .state .long;
+        distinct = fill .state .distinct;
+        whole = fill .whole;
+        rooted = fill .state .rooted;
+        nodes =
+            ap (λ (M : List Node). M ++ drop used N) (is ∙ all-done lt ord F apart (fill .keys) (fill .state .distinct) (fill .whole) (fill .state .rooted) n short (take used N) front-is)
+            ∙ ap (λ (M : List Node). map (nodeOf lt F (fill .keys)) (fill .keys) ++ M) rest-is
+            ∙ ap (λ (k : ℕ). map (nodeOf lt F (fill .keys)) (fill .keys) ++ replicate k Empty) same;
       }
     where
       same : length N - used ≡ length (front ++ drop used N) - used

@@ -1,9 +1,9 @@
 -- The keys of a grid, each once, are as many as its nodes.
-use Prim.Native.Nat.{ℕ, zero, suc, _+_}
+use Prim.Native.Nat.{suc, _+_}
 use native.Mathlib.Omega.{arith}
 use mathlib.Core.Path.{_≡_, refl, sym, ap, subst, _∙_}
-use mathlib.Core.Bool.{Bool, true, false, cond, not, _&&_, _||_}
-use mathlib.Core.List.{List, [], _∷_, _++_}
+use mathlib.Core.Bool.{Bool, true, not, _&&_, _||_}
+use mathlib.Core.List.{List, [], _∷_}
 use lib.ListN.{length}
 use Rattle.std.proofs.shelf.Tests.{and-parts, and-from, not-true, cond-false}
 use Rattle.kinds.specs.Strings.{Str, equal}
@@ -76,6 +76,6 @@ keys-count F keys h whole =
     let b = count-srcs keys h in
     let c = found-alike equal equal-same equal-refl (dsts keys) (dstKeys F) (λ t. sym (any-dsts t keys) ∙ whole (destination t) ∙ sym (dst-key F t)) in
     let d = found-alike sameKey same-key (λ k. and-from (equal (k .0) (k .0)) (equal (k .1) (k .1)) (equal-refl (k .0)) (equal-refl (k .1))) (srcs keys) (srcKeys F)
-        (λ k. sym (any-srcs (k .0) (k .1) keys) ∙ whole (source (k .0) (k .1)) ∙ sym (src-key F (k .0) (k .1))) in
+    (λ k. sym (any-srcs (k .0) (k .1) keys) ∙ whole (source (k .0) (k .1)) ∙ sym (src-key F (k .0) (k .1))) in
     let e = parts keys in
     omega arith

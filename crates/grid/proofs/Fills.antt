@@ -1,7 +1,6 @@
 -- Filters inserted one after another: which nodes there are, and what they keep.
-use Prim.Native.Nat.{ℕ, zero, suc, _+_, _*_, _-_, _<_, _≤_}
+use Prim.Native.Nat.{ℕ, suc, _+_, _-_, _<_, _≤_}
 use native.Mathlib.Omega.{arith}
-use native.Mathlib.Nat.{suc-mul}
 use mathlib.Core.Path.{_≡_, refl, sym, ap, subst, _∙_, fun-ext}
 use mathlib.Core.Logic.{_⊎_, inl, inr}
 use mathlib.Core.Bool.{Bool, true, false, cond, _&&_, _||_}
@@ -13,7 +12,7 @@ use Rattle.std.specs.declared.option.Option.the-variants.{Some, None}
 use Rattle.std.specs.declared.result.Result.{Result}
 use Rattle.std.specs.declared.result.Result.the-variants.{Ok, Err}
 use Rattle.std.specs.Options.{okOr}
-use Rattle.std.proofs.shelf.Lists.{map-push, append-nil, length-append, take-more, take-append-drop, take-all}
+use Rattle.std.proofs.shelf.Lists.{map-push, append-nil, length-append, take-more, take-append-drop}
 use Rattle.std.proofs.shelf.Tests.{both-ways, cases-bool, and-parts, cond-true, cond-false, lt-ltb, le-ltb}
 use Rattle.kinds.specs.Strings.{Str, starts, equal}
 use Rattle.kinds.proofs.Prefixes.{equal-same}
@@ -21,18 +20,16 @@ use Rattle.filters.specs.declared.filter.Record.{Record}
 use Rattle.filters.specs.Rules.{Rule, count, pick, scan, only, best, standing}
 use Rattle.filters.specs.Meaning.{held, heldAt, rules}
 use Rattle.filters.specs.Orders.{In, Order}
-use Rattle.filters.proofs.Bests.{best-from, none-some}
+use Rattle.filters.proofs.Bests.{best-from}
 use Rattle.filters.proofs.Reading.{scan-append, rules-append}
-use Rattle.tries.specs.Prefixes.{any}
 use Rattle.tries.proofs.Same.{same-bool}
 use Rattle.tries.proofs.Standings.{standing-ranks}
 use Rattle.grid.specs.declared.node.Kept.{Kept}
 use Rattle.grid.specs.declared.node.Node.{Node}
 use Rattle.grid.specs.declared.node.Node.the-variants.{Empty}
-use Rattle.grid.specs.declared.edit.Way.{Way}
 use Rattle.grid.specs.Nodes.{pickKept}
-use Rattle.grid.specs.Derived.{Key, destination, source, keyEq, isKey, keep}
-use Rattle.grid.specs.Build.{reached, goes, State, keeping, onPaths, Inserted, exactly, ownOf, Filled}
+use Rattle.grid.specs.Derived.{Key, destination, source, isKey, keep}
+use Rattle.grid.specs.Build.{State, keeping, onPaths, Inserted, exactly, ownOf, Filled}
 use Rattle.grid.proofs.Ranks.{From}
 use Rattle.grid.proofs.Numbering.{any-push, or-none}
 
@@ -148,12 +145,13 @@ module _ {C : Type 0} (lt : Rule C → Rule C → Bool) (ord : Order lt) (F : Li
           → pickKept (ownOf lt F G E u) (Some (keptAs f)) ≡ ownOf lt F (G ++ f ∷ []) E u
       here E u t =
           keep-better (best lt (exactly E u) G) (Some f) (λ g e. sub g (best-from lt (exactly E u) G g e .0))
-              (λ g e. subst (λ (z : Rule C). In z F) (some-is f g e) h)
+          (λ g e. subst (λ (z : Rule C). In z F) (some-is f g e) h)
           ∙ ap (λ (o : Option (Rule C)). keep lt F (pick lt (best lt (exactly E u) G) o)) (sym (cond-true (exactly E u f) (Some f) None t))
           ∙ ap (keep lt F) (sym (best-push (exactly E u) G f))
         where
           some-is : (a b : Rule C) → _≡_ {A = Option (Rule C)} (Some a) (Some b) → a ≡ b
           some-is a b e = cc
+
       at : (E u : Str) → (exactly E u f ≡ true) ⊎ (exactly E u f ≡ false)
           → keeping (ownOf lt F G) (f .destination) (f .source) (keptAs f) E u ≡ ownOf lt F (G ++ f ∷ []) E u
       at E u (inl t) =
@@ -178,16 +176,18 @@ module _ {C : Type 0} (lt : Rule C → Rule C → Bool) (ord : Order lt) (F : Li
   -- no filter
   pub filled-none : (N : List Node) → N ≡ replicate (length N) Empty → Filled lt F [] N 0
   filled-none N e =
-      record
-      { keys = []
-      ; state =
-          record
-          { long = refl; distinct = refl; rooted = tt
-          ; closed = λ k w g h. absurd (both-ways false refl h)
-          ; bare = λ D s h. refl
-          ; nodes = e ∙ (let z : length N ≡ length N - 0 = omega arith in ap (λ (n : ℕ). replicate {A = Node} n Empty) z)
-          }
-      ; whole = whole
+      record {
+        keys = [];
+        state =
+            record {
+              long = refl;
+              distinct = refl;
+              rooted = tt;
+              closed = λ k w g h. absurd (both-ways false refl h);
+              bare = λ D s h. refl;
+              nodes = e ∙ (let z : length N ≡ length N - 0 = omega arith in ap (λ (n : ℕ). replicate {A = Node} n Empty) z);
+            };
+        whole = whole;
       }
     where
       whole : (k : Key) → false ≡ isKey {C = C} [] k
@@ -200,10 +200,10 @@ module _ {C : Type 0} (lt : Rule C → Rule C → Bool) (ord : Order lt) (F : Li
       → Inserted (ownOf lt F G) (fill .keys) (f .destination) (f .source) (keptAs f) M used'
       → Filled lt F (G ++ f ∷ []) M used'
   filled-more G f N used M used' sub h fill ins =
-      record
-      { keys = ins .more
-      ; state = subst (λ (own : Str → Str → Option Kept). State own (ins .more) M used') (own-more G f sub h) (ins .state)
-      ; whole = λ l. ins .adds l ∙ ap (λ (b : Bool). b || onPaths (f .destination) (f .source) l) (fill .whole l) ∙ keys-more G f l
+      record {
+        keys = ins .more;
+        state = subst (λ (own : Str → Str → Option Kept). State own (ins .more) M used') (own-more G f sub h) (ins .state);
+        whole = λ l. ins .adds l ∙ ap (λ (b : Bool). b || onPaths (f .destination) (f .source) l) (fill .whole l) ∙ keys-more G f l;
       }
 
 -- ---- what was read of a place's cost

@@ -1,8 +1,8 @@
 -- When all paths have been walked, the shorter destinations first, every node is the one that the rules give.
-use Prim.Native.Nat.{ℕ, zero, suc, _+_, _<_, _≤_}
+use Prim.Native.Nat.{ℕ, zero, suc, _<_}
 use native.Mathlib.Omega.{arith}
 use mathlib.Core.Path.{_≡_, refl, sym, ap, subst, _∙_}
-use mathlib.Core.Logic.{_⊎_, inl, inr}
+use mathlib.Core.Logic.{inl, inr}
 use mathlib.Core.Bool.{Bool, true, false, cond, _&&_}
 use mathlib.Core.List.{List, [], _∷_, _++_, map}
 use lib.Dec.{eqb}
@@ -11,7 +11,7 @@ use Rattle.std.specs.declared.option.Option.{Option}
 use Rattle.std.specs.declared.option.Option.the-variants.{Some, None}
 use Rattle.std.specs.Options.{valueOr, orOther}
 use Rattle.std.proofs.shelf.Lists.{append-nil, append-assoc}
-use Rattle.std.proofs.shelf.Tests.{both-ways, cases-bool, cases-lt, and-parts, eqb-true, eqb-false, eq-eqb, cond-true, cond-false}
+use Rattle.std.proofs.shelf.Tests.{both-ways, cases-bool, cases-lt, and-parts, eqb-true, eqb-false, cond-true, cond-false}
 use Rattle.kinds.specs.Strings.{Str, starts, equal, snoc}
 use Rattle.kinds.proofs.Prefixes.{equal-same}
 use Rattle.filters.specs.Rules.{Rule}
@@ -24,11 +24,11 @@ use Rattle.grid.specs.Nodes.{nodeAt, childOf, rootOf}
 use Rattle.grid.specs.Derived.{Key, destination, source, keyEq, isKey, place, placeOf, once, Rooted, nodeOf}
 use Rattle.grid.specs.Build.{raw, ownOf}
 use Rattle.grid.specs.Finish.{nodeIf, childFrom, roots, Trek, finishAt, trekOn, trek, finishFrom, finishPath, finishLength, finishBelow}
-use Rattle.grid.proofs.Places.{place-has, place-none, place-any}
+use Rattle.grid.proofs.Places.{place-has, place-none}
 use Rattle.grid.proofs.Numbering.{map-same}
 use Rattle.grid.proofs.Paths.{root-first}
 use Rattle.grid.proofs.Proper.{proper-more}
-use Rattle.grid.proofs.Finishing.{mixed, mixed-at, besideOf, Ready, beside-at, On, trek-first, trek-next}
+use Rattle.grid.proofs.Finishing.{mixed, mixed-at, Ready, beside-at, On, trek-first, trek-next}
 
 module _ {C : Type 0} (lt : Rule C → Rule C → Bool) (ord : Order lt) (F : List (Rule C)) (apart : Apart F) (keys : List Key)
     (distinct : once keys ≡ true) (whole : (k : Key) → any (keyEq k) keys ≡ isKey F k) (rooted : Rooted keys) where
@@ -54,7 +54,7 @@ module _ {C : Type 0} (lt : Rule C → Rule C → Bool) (ord : Order lt) (F : Li
   down-to done N e t b p h has =
       let m = place-has (destination (snoc t b)) keys (whole (destination (snoc t b)) ∙ has) in
       let c : childOf (nodeAt N p) b ≡ place (destination (snoc t b)) keys =
-          ap (λ (n : Node). childOf n b) (mixed-at lt ord F apart keys distinct whole done N e (destination t) p h) ∙ by b in
+      ap (λ (n : Node). childOf n b) (mixed-at lt ord F apart keys distinct whole done N e (destination t) p h) ∙ by b in
       m .1 ∙ ap (λ (o : Option ℕ). Some (valueOr o p)) (sym (c ∙ m .1))
     where
       by : (c : Bool) → childOf (nodeOf lt F keys (destination t)) c ≡ place (destination (snoc t c)) keys
@@ -65,14 +65,15 @@ module _ {C : Type 0} (lt : Rule C → Rule C → Bool) (ord : Order lt) (F : Li
       ≡ placeOf keys [] (longestProper (λ A. hasSrc F A []) (snoc t b))
   up-to t b =
       let p : Str → Bool = λ A. hasSrc F A [] in
-      elim (cases-bool (hasSrc F t []))
-      [ inl h ↦
-          let m = place-has (source t []) keys (whole (source t []) ∙ h) in
-          ap (λ (o : Option ℕ). orOther o (placeOf keys [] (longestProper p t))) (m .1) ∙ sym (m .1)
-          ∙ ap (placeOf keys []) (sym (proper-more p t b ∙ cond-true (hasSrc F t []) (Some t) (longestProper p t) h))
-      | inr h ↦
-          ap (λ (o : Option ℕ). orOther o (placeOf keys [] (longestProper p t))) (place-none (source t []) keys (whole (source t []) ∙ h))
-          ∙ ap (placeOf keys []) (sym (proper-more p t b ∙ cond-false (hasSrc F t []) (Some t) (longestProper p t) h)) ]
+      elim (cases-bool (hasSrc F t [])) [
+        | inl h ↦
+            let m = place-has (source t []) keys (whole (source t []) ∙ h) in
+            ap (λ (o : Option ℕ). orOther o (placeOf keys [] (longestProper p t))) (m .1) ∙ sym (m .1)
+            ∙ ap (placeOf keys []) (sym (proper-more p t b ∙ cond-true (hasSrc F t []) (Some t) (longestProper p t) h))
+        | inr h ↦
+            ap (λ (o : Option ℕ). orOther o (placeOf keys [] (longestProper p t))) (place-none (source t []) keys (whole (source t []) ∙ h))
+            ∙ ap (placeOf keys []) (sym (proper-more p t b ∙ cond-false (hasSrc F t []) (Some t) (longestProper p t) h))
+      ]
 
   -- the root of the source trie of D, and that of the longest proper prefix that has one
   abbrev rootsOf : Str → Option ℕ × Option ℕ
@@ -114,10 +115,10 @@ module _ {C : Type 0} (lt : Rule C → Rule C → Bool) (ord : Order lt) (F : Li
       let m = place-has (source D []) keys (whole (source D []) ∙ src-front F D [] s has) in
       let b = beside-at lt ord F apart keys distinct whole done N e D [] ready in
       let on = trek-all done D s [] (finishAt N (m .0) (nodeIf N (placeOf keys [] (longestProper (λ A. hasSrc F A []) D))) None) ready has
-          (trek-first lt ord F apart keys distinct whole done N e D (m .0) (m .1) (nodeIf N (placeOf keys [] (longestProper (λ A. hasSrc F A []) D))) b) in
+      (trek-first lt ord F apart keys distinct whole done N e D (m .0) (m .1) (nodeIf N (placeOf keys [] (longestProper (λ A. hasSrc F A []) D))) b) in
       let is : finishPath N D s ≡ finishFrom N (Some (m .0), placeOf keys [] (longestProper (λ A. hasSrc F A []) D)) s =
-          ap (λ (r : Option ℕ × Option ℕ). finishFrom N r s)
-          (roots-are done N e D (src-dst F D s has) ∙ ap {B = Option ℕ × Option ℕ} (λ (o : Option ℕ). (o, placeOf keys [] (longestProper (λ A. hasSrc F A []) D))) (m .1)) in
+      ap (λ (r : Option ℕ × Option ℕ). finishFrom N r s)
+      (roots-are done N e D (src-dst F D s has) ∙ ap {B = Option ℕ × Option ℕ} (λ (o : Option ℕ). (o, placeOf keys [] (longestProper (λ A. hasSrc F A []) D))) (m .1)) in
       record { more = on .more; nodes = is ∙ on .nodes; stays = on .stays; covers = on .covers }
 
   -- ---- all filters of one length of destination
@@ -146,11 +147,11 @@ module _ {C : Type 0} (lt : Rule C → Rule C → Bool) (ord : Order lt) (F : Li
           let ready : Ready lt ord F apart keys distinct whole done (f .destination) = λ E u l h. below E u (omega arith) h in
           let p = path-done done N e (f .destination) (f .source) ready (own-src F f (sub f (inl refl))) in
           let w = rest (p .more) (λ E u l h. p .stays E u (below E u l h)) (finishPath N (f .destination) (f .source)) (p .nodes) in
-          record
-          { more = w .more
-          ; nodes = w .nodes
-          ; stays = λ E u d. w .stays E u (p .stays E u d)
-          ; covers = covers p w
+          record {
+            more = w .more;
+            nodes = w .nodes;
+            stays = λ E u d. w .stays E u (p .stays E u d);
+            covers = covers p w;
           }
         where
           covers : (p : Further done (f .destination) (f .source) (finishPath N (f .destination) (f .source)))
@@ -178,15 +179,16 @@ module _ {C : Type 0} (lt : Rule C → Rule C → Bool) (ord : Order lt) (F : Li
     where
       next : (done : Str → Str → Bool) → Below n done → (w : Walked done n F (finishLength n (finishBelow n N F) F)) → Below (suc n) (w .more)
       next done below w E u l h =
-          elim (cases-lt (length E) n)
-          [ inl k ↦ w .stays E u (below E u k h)
-          | inr k ↦
-              let m = any-out (λ (f : Rule C). equal E (f .destination) && starts u (f .source)) F h in
-              let f = m .0 in
-              let p = and-parts (equal E (f .destination)) (starts u (f .source)) (m .2) in
-              let d = equal-same E (f .destination) (p .0) in
-              let len : length (f .destination) ≡ length E = ap (λ (x : Str). length x) (sym d) in
-              subst (λ (x : Str). w .more x u ≡ true) (sym d) (w .covers f (m .1) (omega arith) u (p .1)) ]
+          elim (cases-lt (length E) n) [
+            | inl k ↦ w .stays E u (below E u k h)
+            | inr k ↦
+                let m = any-out (λ (f : Rule C). equal E (f .destination) && starts u (f .source)) F h in
+                let f = m .0 in
+                let p = and-parts (equal E (f .destination)) (starts u (f .source)) (m .2) in
+                let d = equal-same E (f .destination) (p .0) in
+                let len : length (f .destination) ≡ length E = ap (λ (x : Str). length x) (sym d) in
+                subst (λ (x : Str). w .more x u ≡ true) (sym d) (w .covers f (m .1) (omega arith) u (p .1))
+          ]
 
   -- every node is the one that the rules give
   pub all-done : (n : ℕ) → ((f : Rule C) → In f F → length (f .destination) < n) → (N : List Node) → N ≡ map (raw (ownOf lt F F) keys) keys
@@ -198,6 +200,7 @@ module _ {C : Type 0} (lt : Rule C → Rule C → Bool) (ord : Order lt) (F : Li
       first : (k : Key) → raw (ownOf lt F F) keys k ≡ mixed lt ord F apart keys distinct whole (λ E u. false) k
       first (destination t) = refl
       first (source D s) = refl
+
       last : (done : Str → Str → Bool) → Below n done → (k : Key) → any (keyEq k) keys ≡ true → mixed lt ord F apart keys distinct whole done k ≡ nodeOf lt F keys k
       last done below (destination t) h = refl
       last done below (source E u) h =

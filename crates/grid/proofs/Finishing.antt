@@ -1,10 +1,9 @@
 -- Memory in which some source nodes are finished and the others have their children alone; finishing one more.
-use Prim.Native.Nat.{ℕ, _+_, _<_, _≤_}
-use native.Mathlib.Omega.{arith}
-use mathlib.Core.Path.{_≡_, refl, sym, ap, subst, _∙_}
-use mathlib.Core.Logic.{_⊎_, inl, inr}
+use Prim.Native.Nat.{ℕ, _<_}
+use mathlib.Core.Path.{_≡_, refl, sym, ap, _∙_}
+use mathlib.Core.Logic.{inl, inr}
 use mathlib.Core.Bool.{Bool, true, false, cond, _&&_, _||_}
-use mathlib.Core.List.{List, [], _∷_, _++_, map}
+use mathlib.Core.List.{List, [], _∷_, map}
 use lib.ListN.{length, set}
 use Rattle.std.specs.declared.option.Option.{Option}
 use Rattle.std.specs.declared.option.Option.the-variants.{Some, None}
@@ -12,21 +11,21 @@ use Rattle.std.specs.Options.{valueOr}
 use Rattle.std.proofs.shelf.Lists.{append-nil}
 use Rattle.std.proofs.shelf.Tests.{both-ways, cases-bool, and-from, or-cases, or-left, or-right, cond-true, cond-false}
 use Rattle.kinds.specs.Strings.{Str, starts, equal, snoc}
-use Rattle.kinds.proofs.Prefixes.{equal-refl, equal-same, same-equal}
+use Rattle.kinds.proofs.Prefixes.{equal-refl}
 use Rattle.filters.specs.Rules.{Rule, best}
-use Rattle.filters.specs.Orders.{In, Apart, Order}
+use Rattle.filters.specs.Orders.{Apart, Order}
 use Rattle.tries.specs.Prefixes.{any, longestProper}
-use Rattle.tries.specs.Shape.{hasSrc, next}
+use Rattle.tries.specs.Shape.{hasSrc}
 use Rattle.tries.specs.Search.{kept}
 use Rattle.tries.proofs.Finds.{src-front}
 use Rattle.grid.specs.declared.node.Kept.{Kept}
 use Rattle.grid.specs.declared.node.Node.{Node}
-use Rattle.grid.specs.declared.node.Node.the-variants.{Empty, Destination, Source}
+use Rattle.grid.specs.declared.node.Node.the-variants.{Empty, Source}
 use Rattle.grid.specs.Nodes.{nodeAt, childOf, nextOf, keptOf, pickKept}
 use Rattle.grid.specs.Edits.{switched, finishIn}
 use Rattle.grid.specs.Derived.{Key, destination, source, keyEq, isKey, place, placeOf, once, switchPlace, keep, nodeOf}
 use Rattle.grid.specs.Build.{raw, exactly, ownOf}
-use Rattle.grid.specs.Finish.{nodeIf, childFrom, Trek, finishAt, trekOn, trek}
+use Rattle.grid.specs.Finish.{nodeIf, childFrom, Trek, finishAt, trekOn}
 use Rattle.grid.proofs.Places.{place-has, place-none, node-at}
 use Rattle.grid.proofs.Numbering.{set-map}
 use Rattle.grid.proofs.Walks.{leads}
@@ -78,14 +77,15 @@ module _ {C : Type 0} (lt : Rule C → Rule C → Bool) (ord : Order lt) (F : Li
   switch-is : (D s : Str) (b : Bool) → switched (place (source D (snoc s b)) keys) (nextOf (besideOf D s) b) ≡ switchPlace F keys D s b
   switch-is D s b =
       let to = placeOf keys (snoc s b) (longestProper (λ A. hasSrc F A (snoc s b)) D) in
-      elim (cases-bool (hasSrc F D (snoc s b)))
-      [ inl h ↦
-          let m = place-has (source D (snoc s b)) keys (whole (source D (snoc s b)) ∙ h) in
-          ap (λ (o : Option ℕ). switched o (nextOf (besideOf D s) b)) (m .1) ∙ sym (cond-true (hasSrc F D (snoc s b)) None to h)
-      | inr h ↦
-          ap (λ (o : Option ℕ). switched o (nextOf (besideOf D s) b)) (place-none (source D (snoc s b)) keys (whole (source D (snoc s b)) ∙ h))
-          ∙ leads-on D s b
-          ∙ sym (cond-false (hasSrc F D (snoc s b)) None to h) ]
+      elim (cases-bool (hasSrc F D (snoc s b))) [
+        | inl h ↦
+            let m = place-has (source D (snoc s b)) keys (whole (source D (snoc s b)) ∙ h) in
+            ap (λ (o : Option ℕ). switched o (nextOf (besideOf D s) b)) (m .1) ∙ sym (cond-true (hasSrc F D (snoc s b)) None to h)
+        | inr h ↦
+            ap (λ (o : Option ℕ). switched o (nextOf (besideOf D s) b)) (place-none (source D (snoc s b)) keys (whole (source D (snoc s b)) ∙ h))
+            ∙ leads-on D s b
+            ∙ sym (cond-false (hasSrc F D (snoc s b)) None to h)
+      ]
 
   kept-for : (s : Str) (o : Option Str) → keptOf (nodeFor s o) ≡ keep lt F (keptBeside lt ord F apart s o)
   kept-for s None = refl
@@ -130,6 +130,7 @@ module _ {C : Type 0} (lt : Rule C → Rule C → Bool) (ord : Order lt) (F : Li
         here =
             cond-true (mark done D s D s) (nodeOf lt F keys (source D s)) (raw (ownOf lt F F) keys (source D s))
             (or-left (equal D D && equal s s) (done D s) (and-from (equal D D) (equal s s) (equal-refl D) (equal-refl s)))
+
         other : (l : Key) → any (keyEq l) keys ≡ true → keyEq l (source D s) ≡ false → mixed (mark done D s) l ≡ mixed done l
         other (destination t) i h = refl
         other (source E u) i h =
@@ -167,14 +168,14 @@ module _ {C : Type 0} (lt : Rule C → Rule C → Bool) (ord : Order lt) (F : Li
   pub trek-first : (done : Str → Str → Bool) (N : List Node) → N ≡ map (mixed done) keys → (D : Str) (top : ℕ) → place (source D []) keys ≡ Some top
       → (b : Node) → b ≡ besideOf D [] → On done D [] (finishAt N top b None)
   trek-first done N e D top h b beside =
-      record
-      { more = mark done D []
-      ; nodes = finished-nodes done N e D [] top h b beside None None refl (inl (refl, refl))
-      ; stays = λ E u d. or-right (equal E D && equal u []) (done E u) d
-      ; covers = covers
-      ; here = h
-      ; beside = beside
-      ; kept-is = finished-kept done N e D [] top h b beside None None refl (inl (refl, refl))
+      record {
+        more = mark done D [];
+        nodes = finished-nodes done N e D [] top h b beside None None refl (inl (refl, refl));
+        stays = λ E u d. or-right (equal E D && equal u []) (done E u) d;
+        covers = covers;
+        here = h;
+        beside = beside;
+        kept-is = finished-kept done N e D [] top h b beside None None refl (inl (refl, refl));
       }
     where
       covers : (u : Str) → starts u [] ≡ true → mark done D [] D u ≡ true
@@ -184,32 +185,37 @@ module _ {C : Type 0} (lt : Rule C → Rule C → Bool) (ord : Order lt) (F : Li
   pub trek-next : (done : Str → Str → Bool) (D s : Str) (b : Bool) (t : Trek) → Ready done D → hasSrc F D (snoc s b) ≡ true
       → On done D s t → On done D (snoc s b) (trekOn t b)
   trek-next done D s b t ready has on =
-      record
-      { more = mark (on .more) D (snoc s b)
-      ; nodes = finished-nodes (on .more) (t .memory) (on .nodes) D (snoc s b) child here (nodeIf (t .memory) (nextOf (t .beside) b)) beside (t .kept) (kept lt F (D, s)) (on .kept-is) over
-      ; stays = λ E u d. or-right (equal E D && equal u (snoc s b)) (on .more E u) (on .stays E u d)
-      ; covers = covers
-      ; here = here
-      ; beside = beside
-      ; kept-is = finished-kept (on .more) (t .memory) (on .nodes) D (snoc s b) child here (nodeIf (t .memory) (nextOf (t .beside) b)) beside (t .kept) (kept lt F (D, s)) (on .kept-is) over
+      record {
+        more = mark (on .more) D (snoc s b);
+        nodes = finished-nodes (on .more) (t .memory) (on .nodes) D (snoc s b) child here (nodeIf (t .memory) (nextOf (t .beside) b)) beside (t .kept) (kept lt F (D, s)) (on .kept-is) over;
+        stays = λ E u d. or-right (equal E D && equal u (snoc s b)) (on .more E u) (on .stays E u d);
+        covers = covers;
+        here = here;
+        beside = beside;
+        kept-is = finished-kept (on .more) (t .memory) (on .nodes) D (snoc s b) child here (nodeIf (t .memory) (nextOf (t .beside) b)) beside (t .kept) (kept lt F (D, s)) (on .kept-is) over;
       }
     where
       child : ℕ
       child = childFrom (t .memory) (t .at) b
+
       over : Over lt ord F apart D (snoc s b) (kept lt F (D, s))
       over = inr (s, b, refl, refl)
+
       here : place (source D (snoc s b)) keys ≡ Some (childFrom (t .memory) (t .at) b)
       here =
           let m = place-has (source D (snoc s b)) keys (whole (source D (snoc s b)) ∙ has) in
           let c = ap (λ (n : Node). childOf n b) (mixed-at (on .more) (t .memory) (on .nodes) (source D s) (t .at) (on .here)) ∙ mixed-child (on .more) D s b in
           m .1 ∙ ap (λ (o : Option ℕ). Some (valueOr o (t .at))) (sym (c ∙ m .1))
+
       beside : nodeIf (t .memory) (nextOf (t .beside) b) ≡ besideOf D (snoc s b)
       beside =
           ap (λ (n : Node). nodeIf (t .memory) (nextOf n b)) (on .beside)
           ∙ ap (nodeIf (t .memory)) (leads-on D s b)
           ∙ beside-at (on .more) (t .memory) (on .nodes) D (snoc s b) (λ E u l h. on .stays E u (ready E u l h))
+
       covers : (u : Str) → starts u (snoc s b) ≡ true → mark (on .more) D (snoc s b) D u ≡ true
       covers u i =
-          elim (or-cases (starts u s) (equal u (snoc s b)) (sym (starts-snoc u s b) ∙ i))
-          [ inl j ↦ or-right (equal D D && equal u (snoc s b)) (on .more D u) (on .covers u j)
-          | inr j ↦ or-left (equal D D && equal u (snoc s b)) (on .more D u) (and-from (equal D D) (equal u (snoc s b)) (equal-refl D) j) ]
+          elim (or-cases (starts u s) (equal u (snoc s b)) (sym (starts-snoc u s b) ∙ i)) [
+            | inl j ↦ or-right (equal D D && equal u (snoc s b)) (on .more D u) (on .covers u j)
+            | inr j ↦ or-left (equal D D && equal u (snoc s b)) (on .more D u) (and-from (equal D D) (equal u (snoc s b)) (equal-refl D) j)
+          ]

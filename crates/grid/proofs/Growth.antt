@@ -1,18 +1,17 @@
 -- A new node: what it does to the nodes with their children alone, and to the memory that holds them.
-use Prim.Native.Nat.{ℕ, zero, suc, _+_, _-_, _<_, _≤_}
+use Prim.Native.Nat.{ℕ, suc, _+_, _-_, _<_}
 use native.Mathlib.Omega.{arith}
-use native.Mathlib.Numerals.{add-one}
-use mathlib.Core.Path.{_≡_, refl, sym, ap, subst, _∙_}
+use mathlib.Core.Path.{_≡_, refl, sym, ap, _∙_}
 use mathlib.Core.Logic.{_⊎_, inl, inr}
-use mathlib.Core.Bool.{Bool, true, false, cond, not, _&&_, _||_}
+use mathlib.Core.Bool.{Bool, true, false, not, _||_}
 use mathlib.Core.List.{List, [], _∷_, _++_, map}
-use lib.ListN.{length, getD, set, replicate}
+use lib.ListN.{length, set, replicate}
 use Rattle.std.specs.declared.option.Option.{Option}
 use Rattle.std.specs.declared.option.Option.the-variants.{Some, None}
-use Rattle.std.proofs.shelf.Lists.{same-from-push, length-push, length-append, length-map, length-replicate, length-set, set-at, set-append-left, map-push, append-assoc}
-use Rattle.std.proofs.shelf.Tests.{both-ways, cases-bool, or-cases, or-left, or-right}
-use Rattle.kinds.specs.Strings.{Str, equal, snoc}
-use Rattle.filters.proofs.Bests.{none-some, some-same}
+use Rattle.std.proofs.shelf.Lists.{same-from-push, length-push, length-map, length-set, set-at, set-append-left, map-push, append-assoc}
+use Rattle.std.proofs.shelf.Tests.{both-ways, cases-bool, or-cases, or-left}
+use Rattle.kinds.specs.Strings.{Str, snoc}
+use Rattle.filters.proofs.Bests.{none-some}
 use Rattle.tries.specs.Prefixes.{any}
 use Rattle.grid.specs.declared.node.Kept.{Kept}
 use Rattle.grid.specs.declared.node.Node.{Node}
@@ -21,7 +20,7 @@ use Rattle.grid.specs.declared.edit.Way.{Way}
 use Rattle.grid.specs.declared.edit.Way.the-variants.{Down, Root}
 use Rattle.grid.specs.Nodes.{nodeAt}
 use Rattle.grid.specs.Edits.{leadOf, leading, budOf}
-use Rattle.grid.specs.Derived.{Key, destination, source, keyEq, place, once, Rooted}
+use Rattle.grid.specs.Derived.{Key, destination, source, keyEq, place, Rooted}
 use Rattle.grid.specs.Build.{reached, goes, make, ownAt, raw, State, Grown}
 use Rattle.grid.proofs.Places.{key-same, place-none, place-any, node-at}
 use Rattle.grid.proofs.Numbering.{same-key, key-apart, any-push, any-same, or-none, place-out, place-below, place-last, place-other, once-push, set-map}
@@ -132,7 +131,6 @@ make-bud (source D s) Root f g o q h e n = absurd (both-ways false refl h)
 -- ---- a new key k·w behind the keys
 module _ (own : Str → Str → Option Kept) (keys : List Key) (N : List Node) (used : ℕ) (st : State own keys N used)
     (k : Key) (w : Way) (g : goes k w ≡ true) (at' : ℕ) (at-k : place k keys ≡ Some at') (new : any (keyEq (reached k w)) keys ≡ false) where
-
   fresh : Key
   fresh = reached k w
 
@@ -164,9 +162,9 @@ module _ (own : Str → Str → Option Kept) (keys : List Key) (N : List Node) (
   raw-new =
       make-bud k w (λ v. place (reached (reached k w) v) (keys ++ reached k w ∷ [])) (λ v. place (reached k v) keys) (ownAt own (reached k w)) (ownAt own k) g
       (λ v q.
-          place-other (reached (reached k w) v) (reached k w) keys
-          (key-apart (reached (reached k w) v) (reached k w) (λ e. reached-other (reached k w) v q e))
-          ∙ place-none (reached (reached k w) v) keys (nowhere v q))
+      place-other (reached (reached k w) v) (reached k w) keys
+      (key-apart (reached (reached k w) v) (reached k w) (λ e. reached-other (reached k w) v q e))
+      ∙ place-none (reached (reached k w) v) keys (nowhere v q))
       (keeps-none (reached k w) new)
     where
       nowhere : (v : Way) → goes (reached k w) v ≡ true → any (keyEq (reached (reached k w) v)) keys ≡ false
@@ -188,7 +186,7 @@ module _ (own : Str → Str → Option Kept) (keys : List Key) (N : List Node) (
   first-write h =
       let l : length (map (raw own keys) keys) ≡ used = length-map keys (raw own keys) ∙ st .long in
       ap (λ (M : List Node). set M used (budOf (nodeAt N at') w))
-          (st .nodes ∙ ap (λ (tail : List Node). map (raw own keys) keys ++ tail) (tail-split h))
+      (st .nodes ∙ ap (λ (tail : List Node). map (raw own keys) keys ++ tail) (tail-split h))
       ∙ ap (λ (n : Node). set (map (raw own keys) keys ++ Empty ∷ replicate (length N - (used + 1)) Empty) used (budOf n w)) parent-is
       ∙ set-at (map (raw own keys) keys) Empty (replicate (length N - (used + 1)) Empty) (budOf (raw own keys k) w) used l
 
@@ -200,8 +198,8 @@ module _ (own : Str → Str → Option Kept) (keys : List Key) (N : List Node) (
       let tail = replicate {A = Node} (length N - (used + 1)) Empty in
       set-append-left (map (raw own keys) keys) (budOf (raw own keys k) w ∷ tail) at' (leading (raw own keys k) w used) (omega arith)
       ∙ ap (λ (M : List Node). M ++ budOf (raw own keys k) w ∷ tail)
-          (set-map keys (raw own keys) (raw own (keys ++ reached k w ∷ [])) k at' (leading (raw own keys k) w used) at-k (st .distinct)
-           (raw-parent ∙ ap (leading (raw own keys k) w) (st .long)) (λ m i h. raw-other m h))
+      (set-map keys (raw own keys) (raw own (keys ++ reached k w ∷ [])) k at' (leading (raw own keys k) w used) at-k (st .distinct)
+      (raw-parent ∙ ap (leading (raw own keys k) w) (st .long)) (λ m i h. raw-other m h))
       ∙ ap (λ (n : Node). map (raw own (keys ++ reached k w ∷ [])) keys ++ n ∷ tail) (sym raw-new)
       ∙ sym (append-assoc (map (raw own (keys ++ reached k w ∷ [])) keys) (raw own (keys ++ reached k w ∷ []) (reached k w) ∷ []) tail)
       ∙ ap (λ (M : List Node). M ++ tail) (sym (map-push (raw own (keys ++ reached k w ∷ [])) keys (reached k w)))
@@ -221,35 +219,37 @@ module _ (own : Str → Str → Option Kept) (keys : List Key) (N : List Node) (
   still-closed l v q h =
       any-push (keyEq l) keys (reached k w)
       ∙ or-left (any (keyEq l) keys) (keyEq l (reached k w))
-          (elim (or-cases (any (keyEq (reached l v)) keys) (keyEq (reached l v) (reached k w)) (sym (any-push (keyEq (reached l v)) keys (reached k w)) ∙ h))
-           [ inl i ↦ st .closed l v q i
-           | inr i ↦ any-same l k keys (reached-one l k v w q g (key-same (reached l v) (reached k w) i) .0) ∙ place-any k keys at' at-k ])
+      (elim (or-cases (any (keyEq (reached l v)) keys) (keyEq (reached l v) (reached k w)) (sym (any-push (keyEq (reached l v)) keys (reached k w)) ∙ h)) [
+        | inl i ↦ st .closed l v q i
+        | inr i ↦ any-same l k keys (reached-one l k v w q g (key-same (reached l v) (reached k w) i) .0) ∙ place-any k keys at' at-k
+      ])
 
   still-bare : (D s : Str) → any (keyEq (source D s)) (keys ++ reached k w ∷ []) ≡ false → own D s ≡ None
   still-bare D s h =
-      elim (cases-bool (any (keyEq (source D s)) keys))
-      [ inl i ↦ absurd (both-ways (any (keyEq (source D s)) (keys ++ reached k w ∷ [])) h
-                    (any-push (keyEq (source D s)) keys (reached k w) ∙ or-left (any (keyEq (source D s)) keys) (keyEq (source D s) (reached k w)) i))
-      | inr i ↦ st .bare D s i ]
+      elim (cases-bool (any (keyEq (source D s)) keys)) [
+        | inl i ↦ absurd (both-ways (any (keyEq (source D s)) (keys ++ reached k w ∷ [])) h
+            (any-push (keyEq (source D s)) keys (reached k w) ∙ or-left (any (keyEq (source D s)) keys) (keyEq (source D s) (reached k w)) i))
+        | inr i ↦ st .bare D s i
+      ]
 
   pub grown : used < length N
       → Grown own keys (λ l. keyEq l (reached k w)) (reached k w) (set (set N used (budOf (nodeAt N at') w)) at' (leading (nodeAt N at') w used)) (used + 1) used
   grown h =
-      record
-      { more = keys ++ reached k w ∷ []
-      ; state =
-          record
-          { long = length-push keys (reached k w) ∙ ap (λ (n : ℕ). n + 1) (st .long)
-          ; distinct = once-push (reached k w) keys (st .distinct) new
-          ; rooted = root-stays keys at' at-k (st .rooted)
-          ; closed = still-closed
-          ; bare = still-bare
-          ; nodes =
-              written h
-              ∙ ap (λ (n : ℕ). map (raw own (keys ++ reached k w ∷ [])) (keys ++ reached k w ∷ []) ++ replicate (n - (used + 1)) Empty) (sym same-length)
-          }
-      ; here = place-last (reached k w) keys new ∙ ap {B = Option ℕ} Some (st .long)
-      ; adds = λ l. any-push (keyEq l) keys (reached k w)
+      record {
+        more = keys ++ reached k w ∷ [];
+        state =
+            record {
+              long = length-push keys (reached k w) ∙ ap (λ (n : ℕ). n + 1) (st .long);
+              distinct = once-push (reached k w) keys (st .distinct) new;
+              rooted = root-stays keys at' at-k (st .rooted);
+              closed = still-closed;
+              bare = still-bare;
+              nodes =
+                  written h
+                  ∙ ap (λ (n : ℕ). map (raw own (keys ++ reached k w ∷ [])) (keys ++ reached k w ∷ []) ++ replicate (n - (used + 1)) Empty) (sym same-length);
+            };
+        here = place-last (reached k w) keys new ∙ ap {B = Option ℕ} Some (st .long);
+        adds = λ l. any-push (keyEq l) keys (reached k w);
       }
     where
       same-length : length (set (set N used (budOf (nodeAt N at') w)) at' (leading (nodeAt N at') w used)) ≡ length N

@@ -1,16 +1,16 @@
 -- What a finished node keeps: the best of its own, its parent's and that of the node beside it is the best of all that match.
 use mathlib.Core.Path.{_≡_, refl, sym, ap, subst, _∙_}
 use mathlib.Core.Logic.{_⊎_, inl, inr}
-use mathlib.Core.Bool.{Bool, true, false, _&&_}
+use mathlib.Core.Bool.{Bool, true, false}
 use mathlib.Core.List.{List, [], _∷_}
 use Rattle.std.specs.declared.option.Option.{Option}
 use Rattle.std.specs.declared.option.Option.the-variants.{Some, None}
 use Rattle.std.proofs.shelf.Tests.{both-ways, cases-bool, and-parts, and-from, or-cases}
 use Rattle.kinds.specs.Strings.{Str, starts, equal, snoc}
-use Rattle.kinds.proofs.Prefixes.{starts-refl, starts-chain, starts-more, equal-same, equal-refl, same-equal}
+use Rattle.kinds.proofs.Prefixes.{starts-refl, starts-chain, starts-more, equal-same, same-equal}
 use Rattle.filters.specs.Rules.{Rule, matches, pick, scan, best}
 use Rattle.filters.specs.Orders.{In, Apart, Order}
-use Rattle.filters.proofs.Bests.{AsGood, none-some, some-same, good-chain, good-each, scan-all, scan-some, best-all, best-from, good-both}
+use Rattle.filters.proofs.Bests.{AsGood, none-some, good-chain, good-each, scan-all, scan-some, best-all, best-from, good-both}
 use Rattle.tries.specs.Prefixes.{longestProper}
 use Rattle.tries.specs.Shape.{hasSrc}
 use Rattle.tries.specs.Search.{kept}
@@ -19,7 +19,6 @@ use Rattle.grid.specs.declared.node.Kept.{Kept}
 use Rattle.grid.specs.Nodes.{pickKept}
 use Rattle.grid.specs.Derived.{keep}
 use Rattle.grid.specs.Build.{exactly}
-use Rattle.grid.proofs.Ranks.{From}
 use Rattle.grid.proofs.Fills.{keep-better}
 use Rattle.grid.proofs.Paths.{starts-snoc}
 use Rattle.grid.proofs.Proper.{proper-some, proper-has}
@@ -40,31 +39,39 @@ module _ {C : Type 0} (lt : Rule C → Rule C → Bool) (ord : Order lt) (F : Li
     where
       all : List (Option (Rule C))
       all = e ∷ a ∷ o ∷ []
+
       three : Fits D s (scan lt None all)
       three f q =
-          elim (scan-some lt None (e ∷ a ∷ o ∷ []) f q)
-          [ inl z ↦ absurd (none-some f z)
-          | inr (inl z) ↦ fe f (sym z)
-          | inr (inr (inl z)) ↦ fa f (sym z)
-          | inr (inr (inr (inl z))) ↦ fo f (sym z)
-          | inr (inr (inr (inr z))) ↦ absurd z ]
+          elim (scan-some lt None (e ∷ a ∷ o ∷ []) f q) [
+            | inl z ↦ absurd (none-some f z)
+            | inr (inl z) ↦ fe f (sym z)
+            | inr (inr (inl z)) ↦ fa f (sym z)
+            | inr (inr (inr (inl z))) ↦ fo f (sym z)
+            | inr (inr (inr (inr z))) ↦ absurd z
+          ]
+
       first-two : Fits D s (pick lt e a)
       first-two f q =
-          elim (scan-some lt None (e ∷ a ∷ []) f q)
-          [ inl z ↦ absurd (none-some f z)
-          | inr (inl z) ↦ fe f (sym z)
-          | inr (inr (inl z)) ↦ fa f (sym z)
-          | inr (inr (inr z)) ↦ absurd z ]
+          elim (scan-some lt None (e ∷ a ∷ []) f q) [
+            | inl z ↦ absurd (none-some f z)
+            | inr (inl z) ↦ fe f (sym z)
+            | inr (inr (inl z)) ↦ fa f (sym z)
+            | inr (inr (inr z)) ↦ absurd z
+          ]
+
       as-good : (x : Option (Rule C)) → In x (e ∷ a ∷ o ∷ []) → (f : Rule C) → AsGood lt x (Some f) → AsGood lt (scan lt None (e ∷ a ∷ o ∷ [])) (Some f)
       as-good x h f k =
           good-chain lt ord (scan lt None (e ∷ a ∷ o ∷ [])) x (Some f) (scan-all lt ord None x (e ∷ a ∷ o ∷ []) h) k
+
       better-than : (f : Rule C) → kept lt F (D, s) ≡ Some f → AsGood lt (scan lt None (e ∷ a ∷ o ∷ [])) (Some f)
       better-than f q =
           let m = best-from lt (matches D s) F f q in
-          elim (covers f (m .0) (m .1))
-          [ inl k ↦ as-good e (inl refl) f k
-          | inr (inl k) ↦ as-good a (inr (inl refl)) f k
-          | inr (inr k) ↦ as-good o (inr (inr (inl refl))) f k ]
+          elim (covers f (m .0) (m .1)) [
+            | inl k ↦ as-good e (inl refl) f k
+            | inr (inl k) ↦ as-good a (inr (inl refl)) f k
+            | inr (inr k) ↦ as-good o (inr (inr (inl refl))) f k
+          ]
+
       same : pick lt (pick lt e a) o ≡ kept lt F (D, s)
       same =
           good-both lt ord F apart (scan lt None (e ∷ a ∷ o ∷ [])) (kept lt F (D, s)) (λ f q. three f q .0) (λ f q. best-from lt (matches D s) F f q .0)
@@ -87,9 +94,11 @@ module _ {C : Type 0} (lt : Rule C → Rule C → Bool) (ord : Order lt) (F : Li
   over-fits D s a (inr w) f q =
       let u = w .0 in
       let m = best-from lt (matches D u) F f (sym (w .3) ∙ q) in
-      let p = and-parts (starts (f .destination) D) (starts (f .source) u) (m .1) in
-      (m .0, and-from (starts (f .destination) D) (starts (f .source) s) (p .0)
-          (subst (λ (x : Str). starts (f .source) x ≡ true) (sym (w .2)) (starts-more (f .source) u (w .1 ∷ []) (p .1))))
+      let p = and-parts (starts (f .destination) D) (starts (f .source) u) (m .1) in (
+        m .0,
+        and-from (starts (f .destination) D) (starts (f .source) s) (p .0)
+            (subst (λ (x : Str). starts (f .source) x ≡ true) (sym (w .2)) (starts-more (f .source) u (w .1 ∷ []) (p .1))),
+      )
 
   beside-fits : (D s : Str) (o : Option Str) → longestProper (λ A. hasSrc F A s) D ≡ o → Fits D s (keptBeside s o)
   beside-fits D s None e f q = absurd (none-some f q)
@@ -111,9 +120,10 @@ module _ {C : Type 0} (lt : Rule C → Rule C → Bool) (ord : Order lt) (F : Li
   shorter-source D s a (inr w) f h t ne =
       let p = and-parts (starts (f .destination) D) (starts (f .source) s) t in
       let u = w .0 in
-      elim (or-cases (starts (f .source) u) (equal (f .source) (snoc u (w .1))) (sym (starts-snoc (f .source) u (w .1)) ∙ subst (λ (x : Str). starts (f .source) x ≡ true) (w .2) (p .1)))
-      [ inl i ↦ subst (λ (x : Option (Rule C)). AsGood lt x (Some f)) (sym (w .3)) (best-all lt ord (matches D u) F f h (and-from (starts (f .destination) D) (starts (f .source) u) (p .0) i))
-      | inr i ↦ absurd (ne (equal-same (f .source) (snoc u (w .1)) i ∙ sym (w .2))) ]
+      elim (or-cases (starts (f .source) u) (equal (f .source) (snoc u (w .1))) (sym (starts-snoc (f .source) u (w .1)) ∙ subst (λ (x : Str). starts (f .source) x ≡ true) (w .2) (p .1))) [
+        | inl i ↦ subst (λ (x : Option (Rule C)). AsGood lt x (Some f)) (sym (w .3)) (best-all lt ord (matches D u) F f h (and-from (starts (f .destination) D) (starts (f .source) u) (p .0) i))
+        | inr i ↦ absurd (ne (equal-same (f .source) (snoc u (w .1)) i ∙ sym (w .2)))
+      ]
 
   -- a filter of a shorter destination string, and of just this source string, is known to the node beside
   shorter-destination : (D s : Str) (f : Rule C) → In f F → matches D s f ≡ true → f .source ≡ s → (f .destination ≡ D → ⊥)
@@ -134,10 +144,12 @@ module _ {C : Type 0} (lt : Rule C → Rule C → Bool) (ord : Order lt) (F : Li
   before-fits : (D s : Str) (e : Option (Rule C)) → Before D s e → Fits D s e
   before-fits D s e (inl w) f q =
       let m = best-from lt (exactly D s) F f (sym w ∙ q) in
-      let p = and-parts (equal D (f .destination)) (equal s (f .source)) (m .1) in
-      (m .0, and-from (starts (f .destination) D) (starts (f .source) s)
-          (subst (λ (x : Str). starts x D ≡ true) (equal-same D (f .destination) (p .0)) (starts-refl D))
-          (subst (λ (x : Str). starts x s ≡ true) (equal-same s (f .source) (p .1)) (starts-refl s)))
+      let p = and-parts (equal D (f .destination)) (equal s (f .source)) (m .1) in (
+        m .0,
+        and-from (starts (f .destination) D) (starts (f .source) s)
+            (subst (λ (x : Str). starts x D ≡ true) (equal-same D (f .destination) (p .0)) (starts-refl D))
+            (subst (λ (x : Str). starts x s ≡ true) (equal-same s (f .source) (p .1)) (starts-refl s)),
+      )
   before-fits D s e (inr w) f q = best-from lt (matches D s) F f (sym w ∙ q)
 
   before-covers : (D s : Str) (e : Option (Rule C)) → Before D s e → (f : Rule C) → In f F → matches D s f ≡ true → f .destination ≡ D → f .source ≡ s → AsGood lt e (Some f)
@@ -156,9 +168,11 @@ module _ {C : Type 0} (lt : Rule C → Rule C → Bool) (ord : Order lt) (F : Li
       covers : (f : Rule C) → In f F → matches D s f ≡ true
           → AsGood lt e (Some f) ⊎ (AsGood lt a (Some f) ⊎ AsGood lt (keptBeside s (longestProper (λ A. hasSrc F A s) D)) (Some f))
       covers f h t =
-          elim (cases-bool (equal (f .source) s))
-          [ inr n ↦ inr (inl (shorter-source D s a over f h t (λ z. both-ways (equal (f .source) s) n (same-equal (f .source) s z))))
-          | inl y ↦
-              elim (cases-bool (equal (f .destination) D))
-              [ inl d ↦ inl (before-covers D s e before f h t (equal-same (f .destination) D d) (equal-same (f .source) s y))
-              | inr n ↦ inr (inr (shorter-destination D s f h t (equal-same (f .source) s y) (λ z. both-ways (equal (f .destination) D) n (same-equal (f .destination) D z)))) ] ]
+          elim (cases-bool (equal (f .source) s)) [
+            | inr n ↦ inr (inl (shorter-source D s a over f h t (λ z. both-ways (equal (f .source) s) n (same-equal (f .source) s z))))
+            | inl y ↦
+                elim (cases-bool (equal (f .destination) D)) [
+                  | inl d ↦ inl (before-covers D s e before f h t (equal-same (f .destination) D d) (equal-same (f .source) s y))
+                  | inr n ↦ inr (inr (shorter-destination D s f h t (equal-same (f .source) s y) (λ z. both-ways (equal (f .destination) D) n (same-equal (f .destination) D z))))
+                ]
+          ]

@@ -1,14 +1,14 @@
 -- Keys and their places: equal keys, the place of a key among others, and what a write at a key's place does.
-use Prim.Native.Nat.{ℕ, zero, suc, _+_, _-_, _<_, _≤_}
+use Prim.Native.Nat.{ℕ, suc, _<_}
 use native.Mathlib.Omega.{arith}
 use mathlib.Core.Path.{_≡_, refl, sym, ap, subst, _∙_}
-use mathlib.Core.Logic.{_⊎_, inl, inr}
-use mathlib.Core.Bool.{Bool, true, false, cond, not, _&&_, _||_}
+use mathlib.Core.Logic.{inl, inr}
+use mathlib.Core.Bool.{Bool, true, false, cond, not, _||_}
 use mathlib.Core.List.{List, [], _∷_, _++_, map}
 use lib.ListN.{length, set}
 use Rattle.std.specs.declared.option.Option.{Option}
 use Rattle.std.specs.declared.option.Option.the-variants.{Some, None}
-use Rattle.std.proofs.shelf.Tests.{both-ways, cases-bool, and-parts, and-from, and-left, and-right, or-cases, or-parts, or-left, or-right, not-true, not-from-false, cond-true, cond-false}
+use Rattle.std.proofs.shelf.Tests.{both-ways, cases-bool, and-parts, and-from, or-parts, or-left, or-right, not-true, not-from-false, cond-true, cond-false}
 use Rattle.filters.proofs.Bests.{none-some, some-same}
 use Rattle.tries.specs.Prefixes.{any}
 use Rattle.grid.specs.declared.node.Node.{Node}
@@ -68,22 +68,24 @@ place-out k ks e =
 pub place-below : (k : Key) (ks : List Key) (p : ℕ) → place k ks ≡ Some p → p < length ks
 place-below k [] p e = absurd (none-some p e)
 place-below k (l ∷ ks) p e =
-    elim (cases-bool (keyEq k l))
-    [ inl h ↦ let z = some-same 0 p (sym (place-first k l ks h) ∙ e) in omega arith
-    | inr h ↦
-        let m = later-some (place k ks) p (sym (place-later k l ks h) ∙ e) in
-        let b = place-below k ks (m .0) (m .1) in
-        let z = m .2 in omega arith ]
+    elim (cases-bool (keyEq k l)) [
+      | inl h ↦ let z = some-same 0 p (sym (place-first k l ks h) ∙ e) in omega arith
+      | inr h ↦
+          let m = later-some (place k ks) p (sym (place-later k l ks h) ∙ e) in
+          let b = place-below k ks (m .0) (m .1) in
+          let z = m .2 in omega arith
+    ]
 
 -- a key keeps its place when others come behind
 pub place-stays : (k : Key) (ks ls : List Key) (p : ℕ) → place k ks ≡ Some p → place k (ks ++ ls) ≡ Some p
 place-stays k [] ls p e = absurd (none-some p e)
 place-stays k (l ∷ ks) ls p e =
-    elim (cases-bool (keyEq k l))
-    [ inl h ↦ place-first k l (ks ++ ls) h ∙ sym (place-first k l ks h) ∙ e
-    | inr h ↦
-        let m = later-some (place k ks) p (sym (place-later k l ks h) ∙ e) in
-        place-later k l (ks ++ ls) h ∙ ap later (place-stays k ks ls (m .0) (m .1)) ∙ ap {B = Option ℕ} Some (sym (m .2)) ]
+    elim (cases-bool (keyEq k l)) [
+      | inl h ↦ place-first k l (ks ++ ls) h ∙ sym (place-first k l ks h) ∙ e
+      | inr h ↦
+          let m = later-some (place k ks) p (sym (place-later k l ks h) ∙ e) in
+          place-later k l (ks ++ ls) h ∙ ap later (place-stays k ks ls (m .0) (m .1)) ∙ ap {B = Option ℕ} Some (sym (m .2))
+    ]
 
 -- a new key stands behind the others
 pub place-last : (k : Key) (ks : List Key) → any (keyEq k) ks ≡ false → place k (ks ++ k ∷ []) ≡ Some (length ks)
@@ -103,7 +105,7 @@ once-push k (l ∷ ks) h n =
     let p = and-parts (not (any (keyEq l) ks)) (once ks) h in
     let q = or-parts (keyEq k l) (any (keyEq k) ks) n in
     let none : any (keyEq l) (ks ++ k ∷ []) ≡ false =
-        any-push (keyEq l) ks k ∙ ap (λ (t : Bool). t || keyEq l k) (not-true (any (keyEq l) ks) (p .0)) ∙ key-turn k l (q .0) in
+    any-push (keyEq l) ks k ∙ ap (λ (t : Bool). t || keyEq l k) (not-true (any (keyEq l) ks) (p .0)) ∙ key-turn k l (q .0) in
     and-from (not (any (keyEq l) (ks ++ k ∷ []))) (once (ks ++ k ∷ []))
     (not-from-false (any (keyEq l) (ks ++ k ∷ [])) none) (once-push k ks (p .1) (q .1))
 
@@ -122,17 +124,18 @@ pub set-map : (ks : List Key) (g h : Key → Node) (q : Key) (i : ℕ) (y : Node
 set-map [] g h q i y e d hy other = absurd (none-some i e)
 set-map (l ∷ ks) g h q i y e d hy other =
     let p = and-parts (not (any (keyEq l) ks)) (once ks) d in
-    elim (cases-bool (keyEq q l))
-    [ inl t ↦
-        let z : 0 ≡ i = some-same 0 i (sym (place-first q l ks t) ∙ e) in
-        let ql = key-same q l t in
-        let first : y ≡ h l = sym hy ∙ ap h ql in
-        let others : map h ks ≡ map g ks =
-            map-same g h ks (λ m j. other m (or-right (keyEq m l) (any (keyEq m) ks) j)
-                (key-apart m q (λ s. both-ways (any (keyEq l) ks) (not-true (any (keyEq l) ks) (p .0)) (any-same l m ks (sym ql ∙ sym s) ∙ j)))) in
-        subst (λ (n : ℕ). set (g l ∷ map g ks) n y ≡ h l ∷ map h ks) z (λ j. first j ∷ sym others j)
-    | inr t ↦
-        let m = later-some (place q ks) i (sym (place-later q l ks t) ∙ e) in
-        let first : g l ≡ h l = sym (other l (or-left (keyEq l l) (any (keyEq l) ks) (key-refl l)) (key-turn q l t)) in
-        let rest = set-map ks g h q (m .0) y (m .1) (p .1) hy (λ v j. other v (or-right (keyEq v l) (any (keyEq v) ks) j)) in
-        subst (λ (n : ℕ). set (g l ∷ map g ks) n y ≡ h l ∷ map h ks) (sym (m .2)) (λ j. first j ∷ rest j) ]
+    elim (cases-bool (keyEq q l)) [
+      | inl t ↦
+          let z : 0 ≡ i = some-same 0 i (sym (place-first q l ks t) ∙ e) in
+          let ql = key-same q l t in
+          let first : y ≡ h l = sym hy ∙ ap h ql in
+          let others : map h ks ≡ map g ks =
+          map-same g h ks (λ m j. other m (or-right (keyEq m l) (any (keyEq m) ks) j)
+          (key-apart m q (λ s. both-ways (any (keyEq l) ks) (not-true (any (keyEq l) ks) (p .0)) (any-same l m ks (sym ql ∙ sym s) ∙ j)))) in
+          subst (λ (n : ℕ). set (g l ∷ map g ks) n y ≡ h l ∷ map h ks) z (λ j. first j ∷ sym others j)
+      | inr t ↦
+          let m = later-some (place q ks) i (sym (place-later q l ks t) ∙ e) in
+          let first : g l ≡ h l = sym (other l (or-left (keyEq l l) (any (keyEq l) ks) (key-refl l)) (key-turn q l t)) in
+          let rest = set-map ks g h q (m .0) y (m .1) (p .1) hy (λ v j. other v (or-right (keyEq v l) (any (keyEq v) ks) j)) in
+          subst (λ (n : ℕ). set (g l ∷ map g ks) n y ≡ h l ∷ map h ks) (sym (m .2)) (λ j. first j ∷ rest j)
+    ]

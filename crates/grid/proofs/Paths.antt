@@ -1,30 +1,29 @@
 -- Insertion along a string, at its end, and of a whole filter.
-use Prim.Native.Nat.{ℕ, zero, suc, _+_, _-_, _<_, _≤_}
+use Prim.Native.Nat.{ℕ, suc, _-_, _<_}
 use native.Mathlib.Omega.{arith}
 use mathlib.Core.Path.{_≡_, refl, sym, ap, subst, _∙_}
 use mathlib.Core.Logic.{_⊎_, inl, inr}
-use mathlib.Core.Bool.{Bool, true, false, cond, _&&_, _||_, Bool·beq}
+use mathlib.Core.Bool.{Bool, true, false, _&&_, _||_, Bool·beq}
 use mathlib.Core.List.{List, [], _∷_, _++_, map}
-use lib.ListN.{length, getD, set, take, replicate}
+use lib.ListN.{length, set, replicate}
 use Rattle.std.specs.declared.option.Option.{Option}
 use Rattle.std.specs.declared.option.Option.the-variants.{Some, None}
 use Rattle.std.proofs.shelf.Lists.{length-map, length-set, set-append-left}
-use Rattle.std.proofs.shelf.Tests.{both-ways, cases-bool, and-from, and-parts, or-cases, or-left, or-right, cond-true, cond-false}
+use Rattle.std.proofs.shelf.Tests.{both-ways, and-from, or-cases, or-left, cond-true, cond-false}
 use Rattle.kinds.specs.Strings.{Str, starts, equal, snoc}
-use Rattle.kinds.proofs.Prefixes.{equal-refl, equal-same, starts-chain, starts-append}
-use Rattle.filters.proofs.Bests.{none-some, some-same}
+use Rattle.kinds.proofs.Prefixes.{equal-refl}
 use Rattle.tries.specs.Prefixes.{any}
 use Rattle.grid.specs.declared.node.Kept.{Kept}
 use Rattle.grid.specs.declared.node.Node.{Node}
-use Rattle.grid.specs.declared.node.Node.the-variants.{Empty, Destination, Source}
+use Rattle.grid.specs.declared.node.Node.the-variants.{Empty, Destination}
 use Rattle.grid.specs.declared.edit.Way.{Way}
 use Rattle.grid.specs.declared.edit.Way.the-variants.{Down, Root}
 use Rattle.grid.specs.Nodes.{nodeAt, pickKept}
 use Rattle.grid.specs.Edits.{keepIn}
-use Rattle.grid.specs.Derived.{Key, destination, source, keyEq, place, once, Rooted}
-use Rattle.grid.specs.Build.{reached, goes, inTrie, above, make, ownAt, raw, State, Grown, keeping, onPaths, Inserted}
+use Rattle.grid.specs.Derived.{Key, destination, source, keyEq, place, Rooted}
+use Rattle.grid.specs.Build.{reached, goes, inTrie, above, make, ownAt, raw, State, Grown, keeping, Inserted}
 use Rattle.grid.proofs.Places.{key-same, place-any}
-use Rattle.grid.proofs.Numbering.{same-key, key-apart, any-same, or-none,  place-first, place-below, set-map}
+use Rattle.grid.proofs.Numbering.{same-key, key-apart, any-same, or-none, place-first, place-below, set-map}
 use Rattle.grid.proofs.Growth.{there, state-node}
 
 -- ---- one bit more
@@ -74,11 +73,11 @@ module _ (own : Str → Str → Option Kept) (keys : List Key) where
       → Grown own keys (above (inTrie o [])) (inTrie o []) N used p
   path-none N used o p st e =
       let g = there own keys N used st (inTrie o []) p e in
-      record
-      { more = g .more
-      ; state = g .state
-      ; here = g .here
-      ; adds = λ l. g .adds l ∙ ap (λ (x : Bool). any (keyEq l) keys || x) (sym (above-root o l))
+      record {
+        more = g .more;
+        state = g .state;
+        here = g .here;
+        adds = λ l. g .adds l ∙ ap (λ (x : Bool). any (keyEq l) keys || x) (sym (above-root o l));
       }
 
   -- a bit more
@@ -88,16 +87,16 @@ module _ (own : Str → Str → Option Kept) (keys : List Key) where
       → Grown own keys (above (inTrie o (snoc w b))) (inTrie o (snoc w b)) M used' q
   path-more o w b N used p M used' q g h =
       let e = reached-in-trie o w b in
-      record
-      { more = h .more
-      ; state = h .state
-      ; here = subst (λ (k : Key). place k (h .more) ≡ Some q) e (h .here)
-      ; adds = λ l.
-          h .adds l
-          ∙ ap (λ (x : Bool). x || keyEq l (reached (inTrie o w) (Down b))) (g .adds l)
-          ∙ ap (λ (k : Key). (any (keyEq l) keys || above (inTrie o w) l) || keyEq l k) e
-          ∙ sym (or-swap (any (keyEq l) keys) (above (inTrie o w) l) (keyEq l (inTrie o (snoc w b))))
-          ∙ ap (λ (x : Bool). any (keyEq l) keys || x) (sym (above-snoc o w b l))
+      record {
+        more = h .more;
+        state = h .state;
+        here = subst (λ (k : Key). place k (h .more) ≡ Some q) e (h .here);
+        adds = λ l.
+            h .adds l
+            ∙ ap (λ (x : Bool). x || keyEq l (reached (inTrie o w) (Down b))) (g .adds l)
+            ∙ ap (λ (k : Key). (any (keyEq l) keys || above (inTrie o w) l) || keyEq l k) e
+            ∙ sym (or-swap (any (keyEq l) keys) (above (inTrie o w) l) (keyEq l (inTrie o (snoc w b))))
+            ∙ ap (λ (x : Bool). any (keyEq l) keys || x) (sym (above-snoc o w b l));
       }
 
 -- ---- the root
@@ -121,25 +120,27 @@ plant-there own keys N used st h =
 pub plant-new : (own : Str → Str → Option Kept) (keys : List Key) (N : List Node) (used : ℕ) → State own keys N used → used ≡ 0 → 0 < length N
     → Grown own keys (λ l. keyEq l (inTrie None [])) (inTrie None []) (set N 0 (Destination None None None)) 1 0
 plant-new own keys N used st z h =
-    record
-    { more = root ∷ []
-    ; state =
-        record
-        { long = refl
-        ; distinct = refl
-        ; rooted = refl
-        ; closed = closed
-        ; bare = λ D s e. st .bare D s (ap (λ (ks : List Key). any (keyEq (source D s)) ks) none)
-        ; nodes = nodes
-        }
-    ; here = refl
-    ; adds = λ l. or-none (keyEq l root) ∙ ap (λ (ks : List Key). any (keyEq l) ks || keyEq l root) (sym none)
+    record {
+      more = root ∷ [];
+      state =
+          record {
+            long = refl;
+            distinct = refl;
+            rooted = refl;
+            closed = closed;
+            bare = λ D s e. st .bare D s (ap (λ (ks : List Key). any (keyEq (source D s)) ks) none);
+            nodes = nodes;
+          };
+      here = refl;
+      adds = λ l. or-none (keyEq l root) ∙ ap (λ (ks : List Key). any (keyEq l) ks || keyEq l root) (sym none);
     }
   where
     root : Key
     root = destination []
+
     none : keys ≡ []
     none = let e = st .long in no-keys keys (omega arith)
+
     closed : (k : Key) (w : Way) → goes k w ≡ true → any (keyEq (reached k w)) (root ∷ []) ≡ true → any (keyEq k) (root ∷ []) ≡ true
     closed (destination t) (Down b) g e = absurd (snoc-root t b (or-cases (equal (snoc t b) []) false e))
       where
@@ -150,14 +151,18 @@ plant-new own keys N used st z h =
     closed (destination t) Root g e = absurd (both-ways false refl e)
     closed (source D s) (Down b) g e = absurd (both-ways false refl e)
     closed (source D s) Root g e = absurd (both-ways false refl g)
+
     empty : N ≡ replicate (length N) Empty
     empty =
         st .nodes ∙ ap (λ (ks : List Key). map (raw own ks) ks ++ replicate (length N - used) Empty) none
         ∙ (let e : length N - used ≡ length N = omega arith in ap (λ (n : ℕ). replicate {A = Node} n Empty) e)
+
     split : replicate {A = Node} (length N) Empty ≡ Empty ∷ replicate (length N - 1) Empty
     split = let e : length N ≡ suc (length N - 1) = omega arith in ap (λ (n : ℕ). replicate {A = Node} n Empty) e
+
     raw-root : raw own (root ∷ []) root ≡ Destination None None None
     raw-root = refl
+
     nodes : set N 0 (Destination None None None) ≡ raw own (root ∷ []) root ∷ replicate (length (set N 0 (Destination None None None)) - 1) Empty
     nodes =
         ap (λ (M : List Node). set M 0 (Destination None None None)) (empty ∙ split)
@@ -176,24 +181,27 @@ keeping-other own D s c (source E u) h = cond-false (equal E D && equal u s) (pi
 pub kept-more : (own : Str → Str → Option Kept) (keys : List Key) (N : List Node) (used : ℕ) (D s : Str) (c : Kept) (p : ℕ)
     → State own keys N used → place (source D s) keys ≡ Some p → State (keeping own D s c) keys (set N p (keepIn (nodeAt N p) c)) used
 kept-more own keys N used D s c p st e =
-    record
-    { long = st .long
-    ; distinct = st .distinct
-    ; rooted = st .rooted
-    ; closed = st .closed
-    ; bare = λ E u n.
-        keeping-other own D s c (source E u)
-            (key-apart (source E u) (source D s) (λ q. both-ways (any (keyEq (source E u)) keys) n (any-same (source E u) (source D s) keys q ∙ place-any (source D s) keys p e)))
-        ∙ st .bare E u n
-    ; nodes = written
+    record {
+      long = st .long;
+      distinct = st .distinct;
+      rooted = st .rooted;
+      closed = st .closed;
+      bare = λ E u n.
+          keeping-other own D s c (source E u)
+          (key-apart (source E u) (source D s) (λ q. both-ways (any (keyEq (source E u)) keys) n (any-same (source E u) (source D s) keys q ∙ place-any (source D s) keys p e)))
+          ∙ st .bare E u n;
+      nodes = written;
     }
   where
     new : Key → Node
     new = raw (keeping own D s c) keys
+
     same : (l : Key) → any (keyEq l) keys ≡ true → keyEq l (source D s) ≡ false → new l ≡ raw own keys l
     same l i h = ap (λ (k : Option Kept). make l (λ w. place (reached l w) keys) k) (keeping-other own D s c l h)
+
     here : new (source D s) ≡ keepIn (raw own keys (source D s)) c
     here = ap (λ (k : Option Kept). make (source D s) (λ w. place (reached (source D s) w) keys) k) (keeping-here own D s c)
+
     written : set N p (keepIn (nodeAt N p) c) ≡ map new keys ++ replicate (length (set N p (keepIn (nodeAt N p) c)) - used) Empty
     written =
         let b = place-below (source D s) keys p e in
@@ -202,7 +210,7 @@ kept-more own keys N used D s c p st e =
         ∙ ap (λ (M : List Node). set M p (keepIn (raw own keys (source D s)) c)) (st .nodes)
         ∙ set-append-left (map (raw own keys) keys) (replicate (length N - used) Empty) p (keepIn (raw own keys (source D s)) c) (omega arith)
         ∙ ap (λ (M : List Node). M ++ replicate (length N - used) Empty)
-            (set-map keys (raw own keys) new (source D s) p (keepIn (raw own keys (source D s)) c) e (st .distinct) here same)
+        (set-map keys (raw own keys) new (source D s) p (keepIn (raw own keys (source D s)) c) e (st .distinct) here same)
         ∙ ap (λ (n : ℕ). map new keys ++ replicate (n - used) Empty) (sym (length-set N p (keepIn (nodeAt N p) c)))
 
 -- ---- a whole filter
@@ -228,14 +236,14 @@ pub inserted : (own : Str → Str → Option Kept) (keys : List Key) (D s : Str)
     → (g4 : Grown own (g3 .more) (above (inTrie (Some D) s)) (inTrie (Some D) s) N4 u4 end)
     → Inserted own keys D s c (set N4 end (keepIn (nodeAt N4 end) c)) u4
 inserted own keys D s c N1 u1 N2 u2 leaf N3 u3 root N4 u4 end g1 g2 g3 g4 =
-    record
-    { more = g4 .more
-    ; state = kept-more own (g4 .more) N4 u4 D s c end (g4 .state) (g4 .here)
-    ; adds = λ l.
-        g4 .adds l
-        ∙ ap (λ (x : Bool). x || above (source D s) l) (g3 .adds l)
-        ∙ ap (λ (x : Bool). (x || keyEq l (source D [])) || above (source D s) l) (g2 .adds l)
-        ∙ ap (λ (x : Bool). ((x || above (destination D) l) || keyEq l (source D [])) || above (source D s) l) (g1 .adds l)
-        ∙ absorbs (any (keyEq l) keys) (keyEq l (destination [])) (above (destination D) l) (keyEq l (source D [])) (above (source D s) l)
-            (root-above None D l) (root-above (Some D) s l)
+    record {
+      more = g4 .more;
+      state = kept-more own (g4 .more) N4 u4 D s c end (g4 .state) (g4 .here);
+      adds = λ l.
+          g4 .adds l
+          ∙ ap (λ (x : Bool). x || above (source D s) l) (g3 .adds l)
+          ∙ ap (λ (x : Bool). (x || keyEq l (source D [])) || above (source D s) l) (g2 .adds l)
+          ∙ ap (λ (x : Bool). ((x || above (destination D) l) || keyEq l (source D [])) || above (source D s) l) (g1 .adds l)
+          ∙ absorbs (any (keyEq l) keys) (keyEq l (destination [])) (above (destination D) l) (keyEq l (source D [])) (above (source D s) l)
+          (root-above None D l) (root-above (Some D) s l);
     }

@@ -1,15 +1,14 @@
 -- Every link stays below the used places, and every place behind stays empty.
 use Prim.Native.Nat.{ℕ, zero, suc, _+_, _-_, _<_, _≤_}
 use native.Mathlib.Omega.{arith}
-use mathlib.Core.Path.{_≡_, refl, sym, ap, subst, _∙_}
-use mathlib.Core.Bool.{Bool, true, false, cond, _&&_}
-use mathlib.Core.List.{List, [], _∷_, _++_, map}
+use mathlib.Core.Path.{_≡_, refl, sym, subst}
+use mathlib.Core.Bool.{Bool, true, false, _&&_}
+use mathlib.Core.List.{List, [], _∷_}
 use lib.ListN.{length, set, drop, replicate}
-use lib.Dec.{ltb}
 use Rattle.std.specs.declared.option.Option.{Option}
 use Rattle.std.specs.declared.option.Option.the-variants.{Some, None}
 use Rattle.std.proofs.shelf.Lists.{length-set, drop-drop, drop-set-lt}
-use Rattle.std.proofs.shelf.Tests.{both-ways, and-parts, and-from, ltb-true, lt-ltb}
+use Rattle.std.proofs.shelf.Tests.{and-parts, and-from, lt-ltb}
 use Rattle.grid.specs.declared.node.Kept.{Kept}
 use Rattle.grid.specs.declared.node.Node.{Node}
 use Rattle.grid.specs.declared.node.Node.the-variants.{Empty, Destination, Source}
@@ -19,7 +18,7 @@ use Rattle.grid.specs.Nodes.{nodeAt, childOf, switchOf, nextOf, rootOf, within
 use Rattle.grid.specs.Edits.{leadOf, leading, budOf, keepIn, switched, finishIn}
 use Rattle.grid.specs.Build.{Safe}
 use Rattle.grid.proofs.Wiped.{sound-wiped, bare-wiped}
-use Rattle.grid.proofs.Sound.{Links, links, else-within, links-more, sound-at, sound-more}
+use Rattle.grid.proofs.Sound.{links, else-within, links-more, sound-at, sound-more}
 
 -- ---- a node's links
 
@@ -28,8 +27,8 @@ pub links-from : (u : ℕ) (n : Node) → within u (childOf n false) ≡ true �
 links-from u n a b c d e =
     and-from (within u (childOf n false)) (within u (childOf n true) && (within u (switchOf n false) && (within u (switchOf n true) && within u (rootOf n)))) a
     (and-from (within u (childOf n true)) (within u (switchOf n false) && (within u (switchOf n true) && within u (rootOf n))) b
-     (and-from (within u (switchOf n false)) (within u (switchOf n true) && within u (rootOf n)) c
-      (and-from (within u (switchOf n true)) (within u (rootOf n)) d e)))
+    (and-from (within u (switchOf n false)) (within u (switchOf n true) && within u (rootOf n)) c
+    (and-from (within u (switchOf n true)) (within u (rootOf n)) d e)))
 
 -- where a node leads by a bit
 pub next-in : (u : ℕ) (n : Node) (b : Bool) → linksWithin u n ≡ true → within u (nextOf n b) ≡ true
@@ -103,10 +102,10 @@ pub safe-set : (u : ℕ) (N : List Node) (i : ℕ) (n : Node) → Safe u N → i
 safe-set u N i n s l h =
     let e = length-set N i n in
     let f = s .fits in
-    record
-    { fits = omega arith
-    ; linked = sound-set u N i n (s .linked) h
-    ; rest = subst (λ (M : List Node). bare M ≡ true) (sym (drop-set-lt u N i n l)) (s .rest)
+    record {
+      fits = omega arith;
+      linked = sound-set u N i n (s .linked) h;
+      rest = subst (λ (M : List Node). bare M ≡ true) (sym (drop-set-lt u N i n l)) (s .rest);
     }
 
 -- at the first place behind, which comes into use
@@ -114,10 +113,10 @@ pub safe-push : (u : ℕ) (N : List Node) (n : Node) → Safe u N → u < length
 safe-push u N n s l h =
     let e = length-set N u n in
     let j : u < u + 1 = omega arith in
-    record
-    { fits = omega arith
-    ; linked = sound-set (u + 1) N u n (sound-more u (u + 1) (omega arith) N (s .linked)) h
-    ; rest = subst (λ (M : List Node). bare M ≡ true) (sym (drop-set-lt (u + 1) N u n j)) (bare-more u (u + 1) N (omega arith) (s .rest))
+    record {
+      fits = omega arith;
+      linked = sound-set (u + 1) N u n (sound-more u (u + 1) (omega arith) N (s .linked)) h;
+      rest = subst (λ (M : List Node). bare M ≡ true) (sym (drop-set-lt (u + 1) N u n j)) (bare-more u (u + 1) N (omega arith) (s .rest));
     }
 
 -- a new node at the first place behind, and a link to it
@@ -136,8 +135,8 @@ safe-first u N s z l =
 -- empty memory
 pub safe-none : (u : ℕ) (N : List Node) → u ≡ 0 → N ≡ replicate (length N) Empty → Safe u N
 safe-none u N z e =
-    record
-    { fits = omega arith
-    ; linked = subst (λ (M : List Node). sound u M ≡ true) (sym e) (sound-wiped u (length N))
-    ; rest = subst (λ (n : ℕ). bare (drop n N) ≡ true) (sym z) (subst (λ (M : List Node). bare M ≡ true) (sym e) (bare-wiped (length N)))
+    record {
+      fits = omega arith;
+      linked = subst (λ (M : List Node). sound u M ≡ true) (sym e) (sound-wiped u (length N));
+      rest = subst (λ (n : ℕ). bare (drop n N) ≡ true) (sym z) (subst (λ (M : List Node). bare M ≡ true) (sym e) (bare-wiped (length N)));
     }

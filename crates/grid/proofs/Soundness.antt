@@ -1,8 +1,8 @@
 -- The finishing keeps every link below the used places, whatever the memory holds.
-use Prim.Native.Nat.{ℕ, zero, suc, _+_, _-_, _<_, _≤_}
+use Prim.Native.Nat.{ℕ, zero, suc}
 use native.Mathlib.Omega.{arith}
-use mathlib.Core.Path.{_≡_, refl, sym, ap, subst, _∙_}
-use mathlib.Core.Bool.{Bool, true, false, cond, _&&_}
+use mathlib.Core.Path.{_≡_, refl, sym, ap, subst}
+use mathlib.Core.Bool.{Bool, true, false, cond}
 use mathlib.Core.List.{List, [], _∷_, _++_}
 use lib.Dec.{eqb}
 use lib.ListN.{length, take, drop, replicate}
@@ -15,7 +15,7 @@ use Rattle.filters.specs.Rules.{Rule}
 use Rattle.grid.specs.declared.node.Kept.{Kept}
 use Rattle.grid.specs.declared.node.Node.{Node}
 use Rattle.grid.specs.declared.node.Node.the-variants.{Empty, Destination, Source}
-use Rattle.grid.specs.Nodes.{nodeAt, nextOf, linksWithin, sound, isEmpty, bare}
+use Rattle.grid.specs.Nodes.{nodeAt, nextOf, linksWithin, sound, bare}
 use Rattle.grid.specs.Edits.{finishIn}
 use Rattle.grid.specs.Build.{Safe}
 use Rattle.grid.specs.Finish.{nodeIf, childFrom, roots, Trek, finishAt, trekOn, trek, finishFrom, finishPath, finishLength, finishBelow}
@@ -79,10 +79,10 @@ module _ (u : ℕ) where
   safe-front N front s l h =
       let a = length-append front (drop u N) in
       let b = length-drop u N in
-      record
-      { fits = omega arith
-      ; linked = sound-append front (drop u N) h (sound-drop u N (s .linked))
-      ; rest = subst (λ (M : List Node). bare M ≡ true) (sym (drop-at front (drop u N) u l)) (s .rest)
+      record {
+        fits = omega arith;
+        linked = sound-append front (drop u N) h (sound-drop u N (s .linked));
+        rest = subst (λ (M : List Node). bare M ≡ true) (sym (drop-at front (drop u N) u l)) (s .rest);
       }
 
 -- memory without a node is empty throughout

@@ -1,5 +1,5 @@
 -- The first bits of an address, bit by bit.
-use Prim.Native.Nat.{ℕ, min, _+_, _<_, _≤_}
+use Prim.Native.Nat.{ℕ, _+_, _<_, _≤_}
 use native.Mathlib.Omega.{arith}
 use mathlib.Core.Bool.{Bool, false}
 use mathlib.Core.List.{_∷_, []}

@@ -1,6 +1,6 @@
 -- Nodes in the making: new nodes, links to them, what they keep, and their switches.
 use Prim.Native.Nat.{ℕ}
-use mathlib.Core.Bool.{true, false}
+use mathlib.Core.Bool.{true, false, cond}
 use Rattle.std.specs.declared.option.Option.{Option}
 use Rattle.std.specs.declared.option.Option.the-variants.{Some, None}
 use Rattle.grid.specs.declared.node.Kept.{Kept}
@@ -18,11 +18,9 @@ leadOf n Root = rootOf n
 -- the node with a link to p by a way
 abbrev pub leading : Node → Way → ℕ → Node
 leading Empty w p = Empty
-leading (Destination z o r) (Down true) p = Destination z (Some p) r
-leading (Destination z o r) (Down false) p = Destination (Some p) o r
+leading (Destination z o r) (Down b) p = Destination (cond b z (Some p)) (cond b (Some p) o) r
 leading (Destination z o r) Root p = Destination z o (Some p)
-leading (Source z o x y k) (Down true) p = Source z (Some p) x y k
-leading (Source z o x y k) (Down false) p = Source (Some p) o x y k
+leading (Source z o x y k) (Down b) p = Source (cond b z (Some p)) (cond b (Some p) o) x y k
 leading (Source z o x y k) Root p = Source z o x y k
 
 -- the node that a way leads to when it is new

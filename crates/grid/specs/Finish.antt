@@ -43,11 +43,11 @@ pub record Trek : Type 0 where
 -- the node at p is finished
 abbrev pub finishAt : List Node → ℕ → Node → Option Kept → Trek
 finishAt N p beside above =
-    record
-    { memory = set N p (finishIn (nodeAt N p) beside above)
-    ; at = p
-    ; beside = beside
-    ; kept = keptOf (finishIn (nodeAt N p) beside above)
+    record {
+      memory = set N p (finishIn (nodeAt N p) beside above);
+      at = p;
+      beside = beside;
+      kept = keptOf (finishIn (nodeAt N p) beside above);
     }
 
 -- and then the next, by a bit

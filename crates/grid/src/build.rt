@@ -1,5 +1,5 @@
 // The building of the grid: the places used so far are emptied, all filters are inserted, and the nodes are finished.
-ghost use Prim.Native.Nat.{ℕ, _≤_};
+ghost use Prim.Native.Nat.{_≤_};
 ghost use mathlib.Core.Bool.{true, false, cond};
 ghost use mathlib.Core.Path.{_≡_};
 ghost use lib.ListN.{length, take};
@@ -55,7 +55,11 @@ fn places_needed<D: Address, S: Address>(count: usize) -> usize
 }
 
 // Builds the grid of the filters that the records hold, in memory that has places enough. It answers the number of nodes.
-fn fill<D: Address, S: Address, C: Cost>(nodes: &mut [Node], used: &mut u32, records: &[Record<D::Pattern, S::Pattern, C::Pattern>]) -> u32
+fn fill<D: Address, S: Address, C: Cost>(
+    nodes: &mut [Node],
+    used: &mut u32,
+    records: &[Record<D::Pattern, S::Pattern, C::Pattern>],
+) -> u32
     requires safe { ⌜ Safe (now used) (now nodes) ⌝ }
     requires few { ⌜ length (now records) ≤ 4095 ⌝ }
     requires room { ⌜ need (length (now records)) (D·Address .width) (S·Address .width) ≤ length (now nodes) ⌝ }
@@ -75,7 +79,10 @@ fn fill<D: Address, S: Address, C: Cost>(nodes: &mut [Node], used: &mut u32, rec
 impl<'m, D: Address, S: Address, C: Cost> Grid<'m, D, S, C> {
     // Builds the grid of the filters that the records hold. It is refused before the first write where the node places are fewer than
     // so many filters may need, and then nothing changes; else the number of nodes is answered.
-    pub(crate) fn build_from(&mut self, records: &[Record<D::Pattern, S::Pattern, C::Pattern>]) -> Result<u32, BuildFault>
+    pub(crate) fn build_from(
+        &mut self,
+        records: &[Record<D::Pattern, S::Pattern, C::Pattern>],
+    ) -> Result<u32, BuildFault>
         requires { ⌜ length (now records) ≤ 4095 ⌝ }
         ensures answer { λ r. ⌜ r ≡ cond (tooFew (length (now (now (self .entry) .nodes))) (length (now (records .entry))) (D·Address .width) (S·Address .width)) (Err Places) (Ok (nodesOf (rules (D·Address .spells) (S·Address .spells) (C·Written .reads) (now (records .entry))))) ⌝ }
         ensures count { λ _. ⌜ now (self .exit) .used ≡ cond (tooFew (length (now (now (self .entry) .nodes))) (length (now (records .entry))) (D·Address .width) (S·Address .width)) (now (self .entry) .used) (nodesOf (rules (D·Address .spells) (S·Address .spells) (C·Written .reads) (now (records .entry)))) ⌝ }

@@ -1,5 +1,4 @@
 // Nodes in the making: new nodes, links to them, what they keep, and their switches.
-ghost use Prim.Native.Nat.{ℕ};
 ghost use mathlib.Core.Path.{_≡_};
 ghost use Rattle.grid.specs.Edits.{leadOf, leading, budOf, keepIn, switched, finishIn};
 use crate::node::Kept;
@@ -8,7 +7,7 @@ use crate::node::pick_kept;
 
 // The ways from a node to one that hangs on it: by a bit in the same trie, or from a destination node to the root of its source trie.
 #[derive(Clone, Copy)]
-pub enum Way {
+pub(crate) enum Way {
     Down(bool),
     Root,
 }
@@ -39,17 +38,33 @@ impl Node {
         ensures { λ r. ⌜ r ≡ leading self way to ⌝ }
     {
         match (self, way) {
-            (Node::Empty, _) => Node::Empty,
-            (Node::Destination { zero, source, .. }, Way::Down(true)) => Node::Destination { zero, one: Some(to), source },
-            (Node::Destination { one, source, .. }, Way::Down(false)) => Node::Destination { zero: Some(to), one, source },
-            (Node::Destination { zero, one, .. }, Way::Root) => Node::Destination { zero, one, source: Some(to) },
-            (Node::Source { zero, switch_zero, switch_one, kept, .. }, Way::Down(true)) => {
-                Node::Source { zero, one: Some(to), switch_zero, switch_one, kept }
-            }
-            (Node::Source { one, switch_zero, switch_one, kept, .. }, Way::Down(false)) => {
-                Node::Source { zero: Some(to), one, switch_zero, switch_one, kept }
-            }
-            (source, Way::Root) => source,
+            (Node::Destination { zero, one, source }, Way::Down(bit)) => Node::Destination {
+                zero: if bit { zero } else { Some(to) },
+                one: if bit { Some(to) } else { one },
+                source,
+            },
+            (Node::Destination { zero, one, .. }, Way::Root) => Node::Destination {
+                zero,
+                one,
+                source: Some(to),
+            },
+            (
+                Node::Source {
+                    zero,
+                    one,
+                    switch_zero,
+                    switch_one,
+                    kept,
+                },
+                Way::Down(bit),
+            ) => Node::Source {
+                zero: if bit { zero } else { Some(to) },
+                one: if bit { Some(to) } else { one },
+                switch_zero,
+                switch_one,
+                kept,
+            },
+            (other, _) => other,
         }
     }
 
@@ -59,8 +74,18 @@ impl Node {
     {
         match (self, way) {
             (Node::Empty, _) => Node::Empty,
-            (Node::Destination { .. }, Way::Down(_)) => Node::Destination { zero: None, one: None, source: None },
-            _ => Node::Source { zero: None, one: None, switch_zero: None, switch_one: None, kept: None },
+            (Node::Destination { .. }, Way::Down(_)) => Node::Destination {
+                zero: None,
+                one: None,
+                source: None,
+            },
+            _ => Node::Source {
+                zero: None,
+                one: None,
+                switch_zero: None,
+                switch_one: None,
+                kept: None,
+            },
         }
     }
 
@@ -69,8 +94,20 @@ impl Node {
         ensures { λ r. ⌜ r ≡ keepIn self more ⌝ }
     {
         match self {
-            Node::Source { zero, one, switch_zero, switch_one, kept } => {
-                Node::Source { zero, one, switch_zero, switch_one, kept: pick_kept(kept, Some(more)) }
+            Node::Source {
+                zero,
+                one,
+                switch_zero,
+                switch_one,
+                kept,
+            } => {
+                Node::Source {
+                    zero,
+                    one,
+                    switch_zero,
+                    switch_one,
+                    kept: pick_kept(kept, Some(more)),
+                }
             }
             other => other,
         }
@@ -82,7 +119,12 @@ impl Node {
         ensures { λ r. ⌜ r ≡ finishIn self beside above ⌝ }
     {
         match self {
-            Node::Source { zero, one, kept, .. } => Node::Source {
+            Node::Source {
+                zero,
+                one,
+                kept,
+                ..
+            } => Node::Source {
                 zero,
                 one,
                 switch_zero: switch_beside(zero, beside.next(false)),

@@ -1,5 +1,5 @@
 // The insertion of all filters that places hold.
-ghost use Prim.Native.Nat.{ℕ, max, _+_, _*_, _^_, _≤_, _<_};
+ghost use Prim.Native.Nat.{max, _+_, _^_, _≤_, _<_};
 ghost use mathlib.Core.List.{List, _++_};
 ghost use mathlib.Core.Path.{_≡_};
 ghost use lib.ListN.{length, replicate};
@@ -19,7 +19,12 @@ use kinds::address::Address;
 use kinds::cost::Cost;
 
 // Inserts what a place holds, if it holds a filter; its standing is that among all records.
-fn insert_record<D: Address, S: Address, C: Cost>(nodes: &mut [Node], used: &mut u32, records: &[Record<D::Pattern, S::Pattern, C::Pattern>], place: &Record<D::Pattern, S::Pattern, C::Pattern>)
+fn insert_record<D: Address, S: Address, C: Cost>(
+    nodes: &mut [Node],
+    used: &mut u32,
+    records: &[Record<D::Pattern, S::Pattern, C::Pattern>],
+    place: &Record<D::Pattern, S::Pattern, C::Pattern>,
+)
     requires safe { ⌜ Safe (now used) (now nodes) ⌝ }
     requires few { ⌜ length (now records) ≤ 4095 ⌝ }
     requires room { ⌜ max 1 (now used) + (D·Address .width + S·Address .width + 1) ≤ length (now nodes) ⌝ ∗ ⌜ max 1 (now used) + (D·Address .width + S·Address .width + 1) < 2 ^ 32 ⌝ }
@@ -31,14 +36,22 @@ fn insert_record<D: Address, S: Address, C: Cost>(nodes: &mut [Node], used: &mut
         return;
     };
     let rank = standing::<D, S, C>(records, &cost, place.label);
-    let kept = Kept { label: place.label, standing: rank as u16, directive: place.directive };
+    let kept = Kept {
+        label: place.label,
+        standing: rank as u16,
+        directive: place.directive,
+    };
     let to = span_of::<D>(place.destination);
     let from = span_of::<S>(place.source);
     insert(nodes, used, &to, &from, kept);
 }
 
 // Inserts all filters into empty memory that has places enough.
-pub(crate) fn insert_all<D: Address, S: Address, C: Cost>(nodes: &mut [Node], used: &mut u32, records: &[Record<D::Pattern, S::Pattern, C::Pattern>])
+pub(crate) fn insert_all<D: Address, S: Address, C: Cost>(
+    nodes: &mut [Node],
+    used: &mut u32,
+    records: &[Record<D::Pattern, S::Pattern, C::Pattern>],
+)
     requires start { ⌜ now used ≡ 0 ⌝ }
     requires bare { ⌜ now nodes ≡ replicate (length (now nodes)) Empty ⌝ }
     requires few { ⌜ length (now records) ≤ 4095 ⌝ }

@@ -1,6 +1,6 @@
 // The finishing of nodes: switches, and the best of what is kept. Each source path is walked with two places: the node to finish, and
 // the node beside it, which is that of the same source string at the longest shorter destination that has one.
-ghost use Prim.Native.Nat.{ℕ, _+_, _≤_};
+ghost use Prim.Native.Nat.{_+_, _≤_};
 ghost use mathlib.Core.Path.{_≡_};
 ghost use lib.ListN.{length, set};
 ghost use Rattle.std.specs.declared.option.Option.the-variants.{None};
@@ -21,7 +21,11 @@ use kinds::cost::Cost;
 fn look(nodes: &[Node], at: u32) -> Node
     ensures { λ r. ⌜ r ≡ nodeAt (now (nodes .entry)) at ⌝ }
 {
-    if (at as usize) < nodes.len() { nodes[at as usize] } else { Node::Empty }
+    if (at as usize) < nodes.len() {
+        nodes[at as usize]
+    } else {
+        Node::Empty
+    }
 }
 
 // The node at a place, where there is a place.
@@ -96,7 +100,11 @@ fn finish<D: Address, S: Address>(nodes: &mut [Node], to: &Span<D>, from: &Span<
 }
 
 // Finishes what a place holds, if it holds a filter whose destination has so many bits.
-fn finish_record<D: Address, S: Address, C: Cost>(nodes: &mut [Node], place: &Record<D::Pattern, S::Pattern, C::Pattern>, size: u32)
+fn finish_record<D: Address, S: Address, C: Cost>(
+    nodes: &mut [Node],
+    place: &Record<D::Pattern, S::Pattern, C::Pattern>,
+    size: u32,
+)
     ensures { λ _. ⌜ now (nodes .exit) ≡ finishLength size (now (nodes .entry)) (held (D·Address .spells) (S·Address .spells) (C·Written .reads) (now (place .entry))) ⌝ }
 {
     let to = span_of::<D>(place.destination);
@@ -107,7 +115,11 @@ fn finish_record<D: Address, S: Address, C: Cost>(nodes: &mut [Node], place: &Re
 }
 
 // Finishes the filters whose destination has so many bits.
-fn finish_length<D: Address, S: Address, C: Cost>(nodes: &mut [Node], records: &[Record<D::Pattern, S::Pattern, C::Pattern>], size: u32)
+fn finish_length<D: Address, S: Address, C: Cost>(
+    nodes: &mut [Node],
+    records: &[Record<D::Pattern, S::Pattern, C::Pattern>],
+    size: u32,
+)
     ensures { λ _. ⌜ now (nodes .exit) ≡ finishLength size (now (nodes .entry)) (rules (D·Address .spells) (S·Address .spells) (C·Written .reads) (now (records .entry))) ⌝ }
 {
     for place in records {
@@ -116,7 +128,10 @@ fn finish_length<D: Address, S: Address, C: Cost>(nodes: &mut [Node], records: &
 }
 
 // Finishes all filters, the shorter destinations first.
-pub(crate) fn finish_all<D: Address, S: Address, C: Cost>(nodes: &mut [Node], records: &[Record<D::Pattern, S::Pattern, C::Pattern>])
+pub(crate) fn finish_all<D: Address, S: Address, C: Cost>(
+    nodes: &mut [Node],
+    records: &[Record<D::Pattern, S::Pattern, C::Pattern>],
+)
     ensures { λ _. ⌜ now (nodes .exit) ≡ finishBelow (D·Address .width + 1) (now (nodes .entry)) (rules (D·Address .spells) (S·Address .spells) (C·Written .reads) (now (records .entry))) ⌝ }
 {
     for size in 0..D::width_in_bits() + 1 {

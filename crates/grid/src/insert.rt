@@ -1,6 +1,6 @@
 // The insertion of filters: their paths in the tries, and what they leave at the end of them.
-ghost use Prim.Native.Nat.{ℕ, max, _+_, _^_, _≤_, _<_};
-ghost use mathlib.Core.Bool.{Bool, true};
+ghost use Prim.Native.Nat.{max, _+_, _^_, _≤_, _<_};
+ghost use mathlib.Core.Bool.{true};
 ghost use mathlib.Core.List.{List, []};
 ghost use mathlib.Core.Path.{_≡_};
 ghost use lib.ListN.{length};
@@ -49,7 +49,11 @@ fn plant(nodes: &mut [Node], used: &mut u32)
     ensures grid { λ _. ⌜ ((own : Str → Str → Option Kept) (keys : List Key) → State own keys (now (nodes .entry)) (now (used .entry)) → Grown own keys (λ l. keyEq l (inTrie None [])) (inTrie None []) (now (nodes .exit)) (now (used .exit)) 0) ⌝ }
 {
     if *used == 0 {
-        nodes[0] = Node::Destination { zero: None, one: None, source: None };
+        nodes[0] = Node::Destination {
+            zero: None,
+            one: None,
+            source: None,
+        };
         *used = 1;
     }
 }
@@ -74,7 +78,13 @@ fn insert_path<A: Address>(nodes: &mut [Node], used: &mut u32, start: u32, path:
 }
 
 // Inserts both paths of a filter, and offers what is to be kept to the node at the end of the second.
-pub(crate) fn insert<D: Address, S: Address>(nodes: &mut [Node], used: &mut u32, to: &Span<D>, from: &Span<S>, kept: Kept)
+pub(crate) fn insert<D: Address, S: Address>(
+    nodes: &mut [Node],
+    used: &mut u32,
+    to: &Span<D>,
+    from: &Span<S>,
+    kept: Kept,
+)
     requires safe { ⌜ Safe (now used) (now nodes) ⌝ }
     requires short { ⌜ now to .length ≤ D·Address .width ⌝ ∗ ⌜ now from .length ≤ S·Address .width ⌝ }
     requires room { ⌜ max 1 (now used) + (D·Address .width + S·Address .width + 1) ≤ length (now nodes) ⌝ ∗ ⌜ max 1 (now used) + (D·Address .width + S·Address .width + 1) < 2 ^ 32 ⌝ }

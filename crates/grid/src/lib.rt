@@ -1,6 +1,6 @@
 // The grid in memory that is handed in: its nodes, its making, and the searches of it.
 pub mod build;
-pub mod edit;
+mod edit;
 mod fill;
 mod finish;
 pub mod grid;

@@ -1,5 +1,5 @@
 // The first bits of an address, as a path in a trie follows them.
-ghost use Prim.Native.Nat.{ℕ, _≤_};
+ghost use Prim.Native.Nat.{_≤_};
 ghost use mathlib.Core.Path.{_≡_};
 ghost use lib.ListN.{length};
 ghost use Rattle.filters.specs.Meaning.{prefixOf};
@@ -23,5 +23,8 @@ pub(crate) fn span_of<A: Address>(prefix: Prefix<A::Pattern>) -> Span<A>
 {
     let width = A::width_in_bits();
     let length = prefix.length as u32;
-    Span { address: A::of(prefix.address), length: if length < width { length } else { width } }
+    Span {
+        address: A::of(prefix.address),
+        length: if length < width { length } else { width },
+    }
 }

@@ -6,3 +6,8 @@ pub mod Verdicts
 pub mod Walk
 pub mod Heads
 pub mod Places
+pub mod Packing
+pub mod Round
+pub mod Accepted
+pub mod Inverse
+pub mod Turning

@@ -10,7 +10,7 @@ use lib.ListN.{length, take, drop, getD, set}
 use lib.Seq.{paste}
 use Rattle.std.proofs.shelf.Edits.{paste-paste, paste-all}
 use Rattle.std.proofs.shelf.Lists.{drop-drop, drop-set-lt, take-more-set, map-push, map-more, append-assoc, append-nil, length-append, length-map, length-take-le}
-use Rattle.std.proofs.shelf.Tests.{le-ltb, lt-ltb, or-from, or-left, or-right}
+use Rattle.std.proofs.shelf.Tests.{le-ltb, lt-ltb, or-from, or-left}
 use Rattle.std.specs.declared.result.Result.{Result}
 use Rattle.std.specs.declared.result.Result.the-variants.{Ok, Err}
 use Rattle.tables.specs.declared.fault.WriteFault.the-variants.{Short}
@@ -89,6 +89,3 @@ room-ok D S C n room h k = sym (ap (λ (t : Bool). cond t (Err Short) (Ok (table
 
 pub room-many : (D S C : Kind) (n room : ℕ) → 4095 < n → Err Short ≡ writeVerdict D S C n room
 room-many D S C n room h = sym (ap (λ (t : Bool). cond t (Err Short) (Ok (tableSize D S C n))) (or-left (ltb 4095 n) (ltb room (tableSize D S C n)) (lt-ltb 4095 n h)))
-
-pub room-short : (D S C : Kind) (n room : ℕ) → room < tableSize D S C n → Err Short ≡ writeVerdict D S C n room
-room-short D S C n room h = sym (ap (λ (t : Bool). cond t (Err Short) (Ok (tableSize D S C n))) (or-right (ltb 4095 n) (ltb room (tableSize D S C n)) (lt-ltb room (tableSize D S C n) h)))

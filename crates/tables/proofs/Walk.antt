@@ -31,10 +31,11 @@ record-fits D S C i n size len h e l =
     omega (arith, row-below i n (recordSize D S C) h)
 
 -- an answer on the record that was read is one on the record that the table has
+pub verdict-same : (D S C : Kind) (pass : ℕ → Bool) (seen : List ℕ) (u : Bool) (r s : Entry) → u ≡ has (r .label) seen → r ≡ s → entryVerdict D S C pass u r ≡ entryVerdict D S C pass (has (s .label) seen) s
+verdict-same D S C pass seen u r s f h = ap (λ (t : Bool). entryVerdict D S C pass t r) f ∙ ap (λ (z : Entry). entryVerdict D S C pass (has (z .label) seen) z) h
+
 pub counted-at : (D S C : Kind) (pass : ℕ → Bool) (seen : List ℕ) (k : ℕ) (u : Bool) (r s : Entry) (a : Result (Unit {0}) RecordFault) → a ≡ entryVerdict D S C pass u r → u ≡ has (r .label) seen → r ≡ s → counted k a ≡ counted k (entryVerdict D S C pass (has (s .label) seen) s)
-counted-at D S C pass seen k u r s a e f h =
-    ap (counted k)
-    (e ∙ ap (λ (t : Bool). entryVerdict D S C pass t r) f ∙ ap (λ (z : Entry). entryVerdict D S C pass (has (z .label) seen) z) h)
+counted-at D S C pass seen k u r s a e f h = ap (counted k) (e ∙ verdict-same D S C pass seen u r s f h)
 
 pub record-same : (D S C : Kind) (bytes : List ℕ) (i size : ℕ) → size ≡ recordSize D S C → decodeRecord D S C (drop (4 + i * size) bytes) ≡ decodeRecord D S C (drop (4 + i * recordSize D S C) bytes)
 record-same D S C bytes i size e = ap (λ (k : ℕ). decodeRecord D S C (drop (4 + i * k) bytes)) e
@@ -43,6 +44,9 @@ record-same D S C bytes i size e = ap (λ (k : ℕ). decodeRecord D S C (drop (4
 pub onward-ok : (k m : ℕ) (v : Result (Unit {0}) RecordFault) (x : Unit {0}) (rest : Result ℕ LoadFault) → Ok x ≡ counted k v → onward m v rest ≡ rest
 onward-ok k m (Ok y) x rest h = refl
 onward-ok k m (Err e) x rest h = let z : _≡_ {A = ℕ} 0 1 = cc in absurd (omega arith)
+
+pub onward-passed : (m : ℕ) (v : Result (Unit {0}) RecordFault) (rest : Result ℕ LoadFault) → v ≡ Ok tt → onward m v rest ≡ rest
+onward-passed m v rest e = ap (λ (z : Result (Unit {0}) RecordFault). onward m z rest) e
 
 pub onward-err : (k : ℕ) (v : Result (Unit {0}) RecordFault) (e : InRecord) (rest : Result ℕ LoadFault) → Err e ≡ counted k v → Err (inRecord e) ≡ onward k v rest
 onward-err k (Ok y) e rest h = let z : _≡_ {A = ℕ} 0 1 = cc in absurd (omega arith)

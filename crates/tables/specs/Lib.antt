@@ -4,3 +4,5 @@ pub mod Directives
 pub mod Format
 pub mod Verdict
 pub mod Memory
+pub mod Laws
+pub mod Turn

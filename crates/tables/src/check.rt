@@ -1,9 +1,10 @@
 // Which tables are accepted, and which refusal another one meets at which record.
 ghost use Prim.Native.Nat.{ℕ, _+_, _*_, _<_, _≤_};
-ghost use mathlib.Core.Bool.{Bool};
+ghost use mathlib.Core.Bool.{Bool, true};
 ghost use mathlib.Core.List.{[]};
 ghost use mathlib.Core.Path.{_≡_};
 ghost use lib.ListN.{length, drop};
+ghost use Rattle.std.specs.declared.result.Result.the-variants.{Ok};
 ghost use Rattle.std.specs.Results.{Cases};
 ghost use Rattle.kinds.specs.Strings.{bits};
 ghost use Rattle.filters.specs.Meaning.{respelt};
@@ -42,7 +43,8 @@ fn check_prefixes<D: Address, S: Address>(destination: &Prefix<D::Pattern>, sour
 
 // The first refusal of a record; `used` says whether its label is in use already.
 fn check_record<D: Address, S: Address, C: Cost>(place: &Record<D::Pattern, S::Pattern, C::Pattern>, used: bool) -> Result<(), RecordFault>
-    ensures { λ r. ⌜ ((lawful : ℕ → Bool) → Tells (C·Written .number) (C·Written .reads) lawful → r ≡ entryVerdict (kind (D·Written .code) (D·Written .size)) (kind (S·Written .code) (S·Written .size)) (kind (C·Written .code) (C·Written .size)) lawful used (entryOf (D·Written .number) (S·Written .number) (C·Written .number) (now (place .entry)))) ⌝ }
+    ensures answer { λ r. ⌜ ((lawful : ℕ → Bool) → Tells (C·Written .number) (C·Written .reads) lawful → r ≡ entryVerdict (kind (D·Written .code) (D·Written .size)) (kind (S·Written .code) (S·Written .size)) (kind (C·Written .code) (C·Written .size)) lawful used (entryOf (D·Written .number) (S·Written .number) (C·Written .number) (now (place .entry)))) ⌝ }
+    ensures passed { λ r. ⌜ Cases r (λ _. entryVerdict (kind (D·Written .code) (D·Written .size)) (kind (S·Written .code) (S·Written .size)) (kind (C·Written .code) (C·Written .size)) (λ _. true) used (entryOf (D·Written .number) (S·Written .number) (C·Written .number) (now (place .entry))) ≡ Ok tt) (λ _. Unit {0}) ⌝ }
 {
     if place.label == 0 {
         return Err(RecordFault::Filter(FilterFault::ZeroLabel));
@@ -72,7 +74,8 @@ fn is_label_before<D: Address, S: Address, C: Cost>(bytes: &[u8], count: usize, 
 // The refusal of the record at a place, counted from 0.
 fn check_at<D: Address, S: Address, C: Cost>(bytes: &[u8], i: usize) -> Result<(), InRecord>
     requires { ⌜ tableSize (kind (D·Written .code) (D·Written .size)) (kind (S·Written .code) (S·Written .size)) (kind (C·Written .code) (C·Written .size)) (i + 1) ≤ length (now bytes) ⌝ ∗ ⌜ i < 4095 ⌝ }
-    ensures { λ r. ⌜ ((lawful : ℕ → Bool) → Tells (C·Written .number) (C·Written .reads) lawful → r ≡ counted (i + 1) (entryVerdict (kind (D·Written .code) (D·Written .size)) (kind (S·Written .code) (S·Written .size)) (kind (C·Written .code) (C·Written .size)) lawful (has (decodeRecord (kind (D·Written .code) (D·Written .size)) (kind (S·Written .code) (S·Written .size)) (kind (C·Written .code) (C·Written .size)) (drop (4 + i * recordSize (kind (D·Written .code) (D·Written .size)) (kind (S·Written .code) (S·Written .size)) (kind (C·Written .code) (C·Written .size))) (now (bytes .entry))) .label) (labels (decodeRecords (kind (D·Written .code) (D·Written .size)) (kind (S·Written .code) (S·Written .size)) (kind (C·Written .code) (C·Written .size)) i (drop 4 (now (bytes .entry)))))) (decodeRecord (kind (D·Written .code) (D·Written .size)) (kind (S·Written .code) (S·Written .size)) (kind (C·Written .code) (C·Written .size)) (drop (4 + i * recordSize (kind (D·Written .code) (D·Written .size)) (kind (S·Written .code) (S·Written .size)) (kind (C·Written .code) (C·Written .size))) (now (bytes .entry)))))) ⌝ }
+    ensures answer { λ r. ⌜ ((lawful : ℕ → Bool) → Tells (C·Written .number) (C·Written .reads) lawful → r ≡ counted (i + 1) (entryVerdict (kind (D·Written .code) (D·Written .size)) (kind (S·Written .code) (S·Written .size)) (kind (C·Written .code) (C·Written .size)) lawful (has (decodeRecord (kind (D·Written .code) (D·Written .size)) (kind (S·Written .code) (S·Written .size)) (kind (C·Written .code) (C·Written .size)) (drop (4 + i * recordSize (kind (D·Written .code) (D·Written .size)) (kind (S·Written .code) (S·Written .size)) (kind (C·Written .code) (C·Written .size))) (now (bytes .entry))) .label) (labels (decodeRecords (kind (D·Written .code) (D·Written .size)) (kind (S·Written .code) (S·Written .size)) (kind (C·Written .code) (C·Written .size)) i (drop 4 (now (bytes .entry)))))) (decodeRecord (kind (D·Written .code) (D·Written .size)) (kind (S·Written .code) (S·Written .size)) (kind (C·Written .code) (C·Written .size)) (drop (4 + i * recordSize (kind (D·Written .code) (D·Written .size)) (kind (S·Written .code) (S·Written .size)) (kind (C·Written .code) (C·Written .size))) (now (bytes .entry)))))) ⌝ }
+    ensures passed { λ r. ⌜ Cases r (λ _. entryVerdict (kind (D·Written .code) (D·Written .size)) (kind (S·Written .code) (S·Written .size)) (kind (C·Written .code) (C·Written .size)) (λ _. true) (has (decodeRecord (kind (D·Written .code) (D·Written .size)) (kind (S·Written .code) (S·Written .size)) (kind (C·Written .code) (C·Written .size)) (drop (4 + i * recordSize (kind (D·Written .code) (D·Written .size)) (kind (S·Written .code) (S·Written .size)) (kind (C·Written .code) (C·Written .size))) (now (bytes .entry))) .label) (labels (decodeRecords (kind (D·Written .code) (D·Written .size)) (kind (S·Written .code) (S·Written .size)) (kind (C·Written .code) (C·Written .size)) i (drop 4 (now (bytes .entry)))))) (decodeRecord (kind (D·Written .code) (D·Written .size)) (kind (S·Written .code) (S·Written .size)) (kind (C·Written .code) (C·Written .size)) (drop (4 + i * recordSize (kind (D·Written .code) (D·Written .size)) (kind (S·Written .code) (S·Written .size)) (kind (C·Written .code) (C·Written .size))) (now (bytes .entry)))) ≡ Ok tt) (λ _. Unit {0}) ⌝ }
 {
     let place = record_at::<D, S, C>(bytes, 4 + i * record_size::<D, S, C>());
     let used = is_label_before::<D, S, C>(bytes, i, place.label);
@@ -86,7 +89,7 @@ fn check_at<D: Address, S: Address, C: Cost>(bytes: &[u8], i: usize) -> Result<(
 fn check_records<D: Address, S: Address, C: Cost>(bytes: &[u8], count: usize) -> Result<usize, LoadFault>
     requires { ⌜ tableSize (kind (D·Written .code) (D·Written .size)) (kind (S·Written .code) (S·Written .size)) (kind (C·Written .code) (C·Written .size)) count ≤ length (now bytes) ⌝ ∗ ⌜ count ≤ 4095 ⌝ }
     ensures answer { λ r. ⌜ ((lawful : ℕ → Bool) → Tells (C·Written .number) (C·Written .reads) lawful → r ≡ entriesVerdict (kind (D·Written .code) (D·Written .size)) (kind (S·Written .code) (S·Written .size)) (kind (C·Written .code) (C·Written .size)) lawful [] (decodeRecords (kind (D·Written .code) (D·Written .size)) (kind (S·Written .code) (S·Written .size)) (kind (C·Written .code) (C·Written .size)) count (drop 4 (now (bytes .entry))))) ⌝ }
-    ensures count { λ r. ⌜ Cases r (λ n. n ≡ count) (λ _. Unit {0}) ⌝ }
+    ensures passed { λ r. ⌜ Cases r (λ n. (n ≡ count) × (entriesVerdict (kind (D·Written .code) (D·Written .size)) (kind (S·Written .code) (S·Written .size)) (kind (C·Written .code) (C·Written .size)) (λ _. true) [] (decodeRecords (kind (D·Written .code) (D·Written .size)) (kind (S·Written .code) (S·Written .size)) (kind (C·Written .code) (C·Written .size)) count (drop 4 (now (bytes .entry)))) ≡ Ok count)) (λ _. Unit {0}) ⌝ }
 {
     for i in 0..count {
         check_at::<D, S, C>(bytes, i)?;
@@ -116,10 +119,11 @@ fn check_head<D: Address, S: Address, C: Cost>(bytes: &[u8], capacity: usize) ->
 }
 
 // The first refusal of a table where `capacity` filters have room, or how many filters it has: the head first, then
-// record by record.
+// record by record. `answer` is exact, given a test that tells lawful costs by their numbers; `accepted` says, with no such
+// test, that head, length and every check but that of the costs are passed.
 pub fn check_table<D: Address, S: Address, C: Cost>(bytes: &[u8], capacity: usize) -> Result<usize, LoadFault>
     ensures answer { λ r. ⌜ ((lawful : ℕ → Bool) → Tells (C·Written .number) (C·Written .reads) lawful → r ≡ tableVerdict (kind (D·Written .code) (D·Written .size)) (kind (S·Written .code) (S·Written .size)) (kind (C·Written .code) (C·Written .size)) lawful capacity (now (bytes .entry))) ⌝ }
-    ensures accepted { λ r. ⌜ Cases r (λ n. (n ≡ filterCount (now (bytes .entry))) × (length (now (bytes .entry)) ≡ tableSize (kind (D·Written .code) (D·Written .size)) (kind (S·Written .code) (S·Written .size)) (kind (C·Written .code) (C·Written .size)) n) × (n ≤ capacity)) (λ _. Unit {0}) ⌝ }
+    ensures accepted { λ r. ⌜ Cases r (λ n. (n ≡ filterCount (now (bytes .entry))) × (length (now (bytes .entry)) ≡ tableSize (kind (D·Written .code) (D·Written .size)) (kind (S·Written .code) (S·Written .size)) (kind (C·Written .code) (C·Written .size)) n) × (n ≤ capacity) × (tableVerdict (kind (D·Written .code) (D·Written .size)) (kind (S·Written .code) (S·Written .size)) (kind (C·Written .code) (C·Written .size)) (λ _. true) capacity (now (bytes .entry)) ≡ Ok n)) (λ _. Unit {0}) ⌝ }
 {
     let count = check_head::<D, S, C>(bytes, capacity)?;
     check_records::<D, S, C>(bytes, count)

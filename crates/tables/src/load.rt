@@ -1,11 +1,13 @@
 // Loading: the whole table is checked before the first place is written.
 ghost use Prim.Native.Nat.{ℕ, _<_, _≤_};
-ghost use mathlib.Core.Bool.{Bool};
+ghost use mathlib.Core.Bool.{Bool, true};
 ghost use mathlib.Core.List.{map};
 ghost use mathlib.Core.Path.{_≡_};
 ghost use lib.ListN.{length, take, drop, set};
+ghost use Rattle.std.specs.declared.result.Result.the-variants.{Ok};
+ghost use Rattle.std.specs.Results.{Cases};
 ghost use Rattle.tables.specs.Format.{kind, entryOf, tableSize, decode, decodeRecords};
-ghost use Rattle.tables.specs.Memory.{Loaded};
+ghost use Rattle.tables.specs.Memory.{Loaded, Labelled};
 ghost use Rattle.tables.specs.Verdict.{Tells, tableVerdict};
 use crate::check::check_table;
 use crate::fault::LoadFault;
@@ -39,6 +41,8 @@ fn read_records<D: Address, S: Address, C: Cost>(bytes: &[u8], count: usize, pla
 // answer is how many they are; refused, all places stay.
 pub fn load_table<D: Address, S: Address, C: Cost>(bytes: &[u8], places: &mut [Record<D::Pattern, S::Pattern, C::Pattern>]) -> Result<usize, LoadFault>
     ensures answer { λ r. ⌜ ((lawful : ℕ → Bool) → Tells (C·Written .number) (C·Written .reads) lawful → r ≡ tableVerdict (kind (D·Written .code) (D·Written .size)) (kind (S·Written .code) (S·Written .size)) (kind (C·Written .code) (C·Written .size)) lawful (length (now (places .entry))) (now (bytes .entry))) ⌝ }
+    ensures accepted { λ r. ⌜ Cases r (λ n. tableVerdict (kind (D·Written .code) (D·Written .size)) (kind (S·Written .code) (S·Written .size)) (kind (C·Written .code) (C·Written .size)) (λ _. true) (length (now (places .entry))) (now (bytes .entry)) ≡ Ok n) (λ _. Unit {0}) ⌝ }
+    ensures labels { λ r. ⌜ Cases r (λ _. Labelled (decode (kind (D·Written .code) (D·Written .size)) (kind (S·Written .code) (S·Written .size)) (kind (C·Written .code) (C·Written .size)) (now (bytes .entry)))) (λ _. Unit {0}) ⌝ }
     ensures memory { λ r. ⌜ Loaded (entryOf (D·Written .number) (S·Written .number) (C·Written .number)) (decode (kind (D·Written .code) (D·Written .size)) (kind (S·Written .code) (S·Written .size)) (kind (C·Written .code) (C·Written .size)) (now (bytes .entry))) (now (places .entry)) (now (places .exit)) r ⌝ }
 {
     let count = check_table::<D, S, C>(bytes, places.len())?;

@@ -1,14 +1,13 @@
-use Prim.Native.Nat.{ℕ, _+_, _-_, _≤_, _<_}
+use Prim.Native.Nat.{ℕ, _+_, _-_}
 use native.Mathlib.Omega.{arith}
 use mathlib.Core.Path.{_≡_, refl, sym, ap, subst, _∙_}
 use mathlib.Core.List.{List, _++_}
 use lib.ListN.{length, take, drop}
 use borrow.Rule.Slice.PartMut.{postOf, post-is}
 use Rattle.kinds.proofs.Bits.{length-bits}
-use Rattle.kinds.specs.Strings.{Str, bits}
-use Rattle.filters.specs.Rules.{Rule, better}
+use Rattle.kinds.specs.Strings.{Str}
+use Rattle.filters.specs.Rules.{better}
 use Rattle.filters.specs.Meaning.{rules}
-use Rattle.filters.specs.Orders.{In, Apart, Compares}
 use Rattle.filters.proofs.Bests.{ranks}
 use Rattle.grid.specs.declared.node.Node.{Node}
 use Rattle.grid.specs.Derived.{Derived}
@@ -19,11 +18,11 @@ use Rattle.grid.proofs.build.fill.Needs as need
 
 pub insert-all-requires : need.insert-all-requires
 insert-all-requires g c κs =
-    record
-    { start = refl
-    ; bare = emptied (c .args .used .now) (c .args .nodes .now) (c .empty-first .last .nodes) (c .pre .safe) (c .empty-first .ensures)
-    ; few = c .pre .few
-    ; room = omega (arith, c .pre .room, c .empty-first .kept .nodes)
+    record {
+      start = refl;
+      bare = emptied (c .args .used .now) (c .args .nodes .now) (c .empty-first .last .nodes) (c .pre .safe) (c .empty-first .ensures);
+      few = c .pre .few;
+      room = omega (arith, c .pre .room, c .empty-first .kept .nodes);
     }
 
 pub returns : need.returns
@@ -45,9 +44,9 @@ returns g c =
     let long : length front ≡ length (take u N) = c .finish-all .kept .nodes ∙ ap (λ (M : List Node). length M) part in
     let is : front ≡ finishBelow (w + 1) (take u N) F = c .finish-all .ensures ∙ ap (λ (M : List Node). finishBelow (w + 1) M F) part in
     let rest : drop u N ≡ postOf 0 (u - 0) N = sym (post-is 0 u N (omega arith)) in
-    record
-    { safe = subst (λ (M : List Node). Safe u (front ++ M)) rest (built-safe lt ord F N u safe fill (w + 1) short front long is)
-    ; answer = refl
-    ; count = built-count lt ord F N u safe fill (w + 1) short front long is
-    ; grid = λ apart. subst (λ (M : List Node). Derived lt F (front ++ M) u) rest (built-grid lt ord F N u safe fill (w + 1) short front long is apart)
+    record {
+      safe = subst (λ (M : List Node). Safe u (front ++ M)) rest (built-safe lt ord F N u safe fill (w + 1) short front long is);
+      answer = refl;
+      count = built-count lt ord F N u safe fill (w + 1) short front long is;
+      grid = λ apart. subst (λ (M : List Node). Derived lt F (front ++ M) u) rest (built-grid lt ord F N u safe fill (w + 1) short front long is apart);
     }

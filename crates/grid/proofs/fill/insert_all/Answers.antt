@@ -1,18 +1,17 @@
-use Prim.Native.Nat.{ℕ, zero, suc, max, _+_, _*_, _≤_, _<_}
+use Prim.Native.Nat.{ℕ, zero, suc, _+_, _*_, _≤_, _<_}
 use native.Mathlib.Omega.{arith}
-use native.Mathlib.Nat.{suc-mul, add-mul, mul-le-mul-left}
-use mathlib.Core.Path.{_≡_, refl, sym, ap, subst, _∙_}
-use mathlib.Core.List.{List, [], _∷_, _++_}
+use native.Mathlib.Nat.{add-mul}
+use mathlib.Core.Path.{_≡_, sym, subst}
+use mathlib.Core.List.{List, []}
 use lib.ListN.{length, take}
 use Rattle.std.proofs.shelf.Lists.{take-all}
 use Rattle.std.proofs.shelf.Bits.{mul-le}
 use Rattle.filters.specs.declared.filter.Record.{Record}
 use Rattle.filters.specs.Rules.{Rule, better}
 use Rattle.filters.specs.Meaning.{rules}
-use Rattle.filters.specs.Orders.{In, Compares}
 use Rattle.filters.proofs.Bests.{ranks}
 use Rattle.tries.specs.Shape.{need as needed}
-use Rattle.grid.specs.Build.{Safe, Filled}
+use Rattle.grid.specs.Build.{Filled}
 use Rattle.grid.proofs.Fills.{filled-none, rules-more, rules-front, rules-item}
 use Rattle.grid.proofs.Safety.{safe-none}
 use Rattle.grid.proofs.fill.insert_all.Needs as need
@@ -33,10 +32,11 @@ pub loop-place-holds : need.loop-place-holds
 loop-place-holds g c =
     let ord = ranks (g .C·Cost .order) (record { exchange = g .C·Cost·met .exchange; chain = g .C·Cost·met .chain }) in
     let F = rules (g .D·Address .spells) (g .S·Address .spells) (g .C·Written .reads) (c .args .records .now) in
-    let z = c .pre .start in
-    ( safe-none (c .args .used .now) (c .args .nodes .now) z (c .pre .bare)
-    , omega arith
-    , subst (λ (n : ℕ). Filled (better (g .C·Cost .order)) F [] (c .args .nodes .now) n) (sym z) (filled-none (better (g .C·Cost .order)) ord F (c .args .nodes .now) (c .pre .bare)) )
+    let z = c .pre .start in (
+      safe-none (c .args .used .now) (c .args .nodes .now) z (c .pre .bare),
+      omega arith,
+      subst (λ (n : ℕ). Filled (better (g .C·Cost .order)) F [] (c .args .nodes .now) n) (sym z) (filled-none (better (g .C·Cost .order)) ord F (c .args .nodes .now) (c .pre .bare)),
+    )
 
 pub insert-record-requires : need.insert-record-requires
 insert-record-requires g c κs =
@@ -67,11 +67,12 @@ loop-place-again g c =
     let is = c .place-item .is in
     let m = c .insert-record .ensures .most in
     let r = room-more (length xs) i (g .D·Address .width) (g .S·Address .width) h in
-    let v = c .loop-place .inv in
-    ( c .insert-record .ensures .safe
-    , omega arith
-    , subst (λ (H : List (Rule (g .C .Denot))). Filled lt F H (c .insert-record .last .nodes) (c .insert-record .last .used)) (sym (rules-more D S R xs i (c .place-item .result) h is))
-      (c .insert-record .ensures .grid (rules D S R (take i xs)) (rules-front D S R i xs) (rules-item D S R xs i (c .place-item .result) h is) (v .2)) )
+    let v = c .loop-place .inv in (
+      c .insert-record .ensures .safe,
+      omega arith,
+      subst (λ (H : List (Rule (g .C .Denot))). Filled lt F H (c .insert-record .last .nodes) (c .insert-record .last .used)) (sym (rules-more D S R xs i (c .place-item .result) h is))
+          (c .insert-record .ensures .grid (rules D S R (take i xs)) (rules-front D S R i xs) (rules-item D S R xs i (c .place-item .result) h is) (v .2)),
+    )
 
 pub returns : need.returns
 returns g c =
@@ -81,9 +82,9 @@ returns g c =
     let lt = better (g .C·Cost .order) in
     let xs = c .args .records .now in
     let v = c .loop-place .inv in
-    record
-    { safe = v .0
-    ; grid =
-        subst (λ (ys : List (Record (g .D·Pattern .Denot) (g .S·Pattern .Denot) (g .C·Pattern .Denot))). Filled lt (rules D S R xs) (rules D S R ys) (c .loop-place .nodes) (c .loop-place .used))
-        (take-all (c .loop-place .place-index) xs (c .loop-place-test .left)) (v .2)
+    record {
+      safe = v .0;
+      grid =
+          subst (λ (ys : List (Record (g .D·Pattern .Denot) (g .S·Pattern .Denot) (g .C·Pattern .Denot))). Filled lt (rules D S R xs) (rules D S R ys) (c .loop-place .nodes) (c .loop-place .used))
+          (take-all (c .loop-place .place-index) xs (c .loop-place-test .left)) (v .2);
     }

@@ -1,8 +1,8 @@
-use Prim.Native.Nat.{ℕ, suc, _+_}
+use Prim.Native.Nat.{ℕ, _+_}
 use native.Mathlib.Numerals.{add-one}
 use native.Mathlib.Omega.{arith}
 use mathlib.Core.List.{List}
-use mathlib.Core.Path.{_≡_, refl, sym, ap, _∙_}
+use mathlib.Core.Path.{_≡_, sym, ap, _∙_}
 use Rattle.filters.specs.Meaning.{rules}
 use Rattle.grid.specs.declared.node.Node.{Node}
 use Rattle.grid.specs.Finish.{finishLength, finishBelow}

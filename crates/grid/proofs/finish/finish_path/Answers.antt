@@ -1,8 +1,7 @@
-use Prim.Native.Nat.{ℕ, _+_, _≤_}
+use Prim.Native.Nat.{ℕ, _+_}
 use native.Mathlib.Omega.{arith}
-use mathlib.Core.Bool.{Bool}
-use mathlib.Core.List.{List, []}
-use mathlib.Core.Path.{_≡_, refl, sym, ap, _∙_}
+use mathlib.Core.List.{List}
+use mathlib.Core.Path.{_≡_, sym, ap, _∙_}
 use lib.ListN.{length, drop, set}
 use Rattle.std.specs.declared.option.Option.{Option}
 use Rattle.std.specs.declared.option.Option.the-variants.{None}
@@ -12,7 +11,7 @@ use Rattle.grid.specs.declared.node.Node.{Node}
 use Rattle.grid.specs.Nodes.{nodeAt, nextOf, keptOf}
 use Rattle.grid.specs.Edits.{finishIn}
 use Rattle.grid.specs.Spans.{spelt}
-use Rattle.grid.specs.Finish.{Trek, childFrom, nodeIf, finishAt, trekOn, trek}
+use Rattle.grid.specs.Finish.{Trek, nodeIf, finishAt, trek}
 use Rattle.grid.proofs.Spelling.{bits-more, bits-all}
 use Rattle.grid.proofs.finish.finish_path.Needs as need
 
@@ -31,11 +30,11 @@ loop-i-again g c =
     let here : Trek = record { memory = N; at = c .loop-i .at; beside = c .loop-i .beside; kept = c .loop-i .above } in
     let x = c .finish-node-above-in-loop-i .ensures in
     let beside : c .look-if-beside .result ≡ nodeIf N (nextOf (c .loop-i .beside) (c .bit-bit .result)) =
-        c .look-if-beside .ensures ∙ ap (nodeIf N) (c .next .ensures) in
+    c .look-if-beside .ensures ∙ ap (nodeIf N) (c .next .ensures) in
     let rest = drop (i + 1) (spelt (g .A·Address .string) (c .args .path .now)) in
     ap (λ (z : Trek). trek z rest)
-        (called N (c .finish-node-above-in-loop-i .last .nodes) (c .child-from-at .result) (c .look-if-beside .result) (c .loop-i .above) (c .finish-node-above-in-loop-i .result) (x .memory) (x .kept)
-         ∙ ap (λ (z : ℕ × Node). finishAt N (z .0) (z .1) (c .loop-i .above)) (λ j. (c .child-from-at .ensures j, beside j)))
+    (called N (c .finish-node-above-in-loop-i .last .nodes) (c .child-from-at .result) (c .look-if-beside .result) (c .loop-i .above) (c .finish-node-above-in-loop-i .result) (x .memory) (x .kept)
+    ∙ ap (λ (z : ℕ × Node). finishAt N (z .0) (z .1) (c .loop-i .above)) (λ j. (c .child-from-at .ensures j, beside j)))
     ∙ sym (bits-more (λ (s : Str). trek here s) t n i (c .bit-bit .result) (omega arith) (c .loop-i-test .taken) (c .bit-bit .ensures))
     ∙ c .loop-i .inv
 
@@ -46,6 +45,6 @@ returns g c =
     let x = c .finish-node-above .ensures in
     ap (λ (z : Trek). z .memory)
     (sym (bits-all (λ (s : Str). trek here s) t (c .args .path .now .length) (c .loop-i .i) (omega (arith, c .loop-i-test .left)))
-     ∙ c .loop-i .inv
-     ∙ ap (λ (z : Trek). trek z (spelt (g .A·Address .string) (c .args .path .now)))
-         (called (c .args .nodes .now) (c .finish-node-above .last .nodes) (c .args .top) (c .args .next-to) None (c .finish-node-above .result) (x .memory) (x .kept)))
+    ∙ c .loop-i .inv
+    ∙ ap (λ (z : Trek). trek z (spelt (g .A·Address .string) (c .args .path .now)))
+    (called (c .args .nodes .now) (c .finish-node-above .last .nodes) (c .args .top) (c .args .next-to) None (c .finish-node-above .result) (x .memory) (x .kept)))

@@ -1,10 +1,7 @@
 use mathlib.Core.Path.{_≡_}
-use mathlib.Core.List.{List}
 use lib.ListN.{drop}
-use Rattle.std.specs.declared.option.Option.{Option}
-use Rattle.std.specs.declared.option.Option.the-variants.{None}
 use Rattle.grid.specs.Spans.{spelt}
-use Rattle.grid.specs.Finish.{Trek, finishAt, trek}
+use Rattle.grid.specs.Finish.{trek}
 use Rattle.grid.proofs.finish.finish_path.Given as given
 
 -- what is left of the path goes on from here

@@ -1,7 +1,7 @@
-use Prim.Native.Nat.{ℕ, _+_, _≤_, _<_}
+use Prim.Native.Nat.{_+_, _≤_, _<_}
 use mathlib.Core.List.{List, []}
 use mathlib.Core.Path.{_≡_}
-use lib.ListN.{length, take}
+use lib.ListN.{take}
 use Rattle.std.specs.declared.option.Option.{Option}
 use Rattle.std.specs.declared.option.Option.the-variants.{Some}
 use Rattle.kinds.specs.Strings.{Str}
@@ -18,6 +18,6 @@ Inv-loop-i g l =
     × (l .entry .used ≤ l .used)
     × (l .used ≤ l .entry .used + l .i)
     × ((own : Str → Str → Option Kept) (keys : List Key) (o : Option Str)
-        → State own keys (l .entry .nodes) (l .entry .used) → place (inTrie o []) keys ≡ Some (l .entry .at)
-        → Grown own keys (above (inTrie o (take (l .i) (g .A·Address .string (l .path .address)))))
-            (inTrie o (take (l .i) (g .A·Address .string (l .path .address)))) (l .nodes) (l .used) (l .at))
+    → State own keys (l .entry .nodes) (l .entry .used) → place (inTrie o []) keys ≡ Some (l .entry .at)
+    → Grown own keys (above (inTrie o (take (l .i) (g .A·Address .string (l .path .address)))))
+    (inTrie o (take (l .i) (g .A·Address .string (l .path .address)))) (l .nodes) (l .used) (l .at))

@@ -1,8 +1,7 @@
-use Prim.Native.Nat.{ℕ, min, _+_, _≤_, _<_}
+use Prim.Native.Nat.{ℕ, _≤_, _<_}
 use native.Mathlib.Omega.{arith}
 use mathlib.Core.Logic.{_⊎_, inl, inr}
-use mathlib.Core.Path.{_≡_, refl, sym, ap, subst, _∙_}
-use mathlib.Core.List.{List, []}
+use mathlib.Core.Path.{_≡_, sym, ap, _∙_}
 use lib.ListN.{length, take}
 use Rattle.std.proofs.shelf.Lists.{take-all, length-take}
 use Rattle.kinds.specs.Strings.{Str}
@@ -24,13 +23,14 @@ returns g c =
     let wide = g .A·Address·met .long x in
     let w = c .width-in-bits-width .ensures in
     let way : ((n ≡ l) × (l < length t)) ⊎ ((n ≡ length t) × (length t ≤ l)) =
-        elim (c .if-length-width .came)
-        [ then-length-width v ↦ inl (omega (arith, v .result-is), omega (arith, v .if-length-width .taken))
-        | else-length-width v ↦ inr (omega (arith, v .result-is), omega (arith, v .if-length-width .left)) ] in
+    elim (c .if-length-width .came) [
+      | then-length-width v ↦ inl (omega (arith, v .result-is), omega (arith, v .if-length-width .taken))
+      | else-length-width v ↦ inr (omega (arith, v .result-is), omega (arith, v .if-length-width .left))
+    ] in
     let e = lesser t l n way in
     let s = c .of .ensures .string in
-    record
-    { short = omega arith
-    ; string = e .0 ∙ ap (λ (z : Str). take l z) s
-    ; size = e .1 ∙ ap (λ (z : Str). length (take l z)) s
+    record {
+      short = omega arith;
+      string = e .0 ∙ ap (λ (z : Str). take l z) s;
+      size = e .1 ∙ ap (λ (z : Str). length (take l z)) s;
     }
