@@ -60,12 +60,13 @@ module _ {D S P : Type 0} (xs : List (Record D S P)) (u at n : ℕ) (fits : u �
       ∙ ap (λ (ws : List (Record D S P)). ws ++ drop (at + (u - 1 - at)) xs) moved-are
       ∙ ap (λ (k : ℕ). without (λ r. r .label) n (take u xs) ++ drop k xs) e
 
-  -- the places in use
-  pub used-are : (ys : List (Record D S P)) → ys ≡ paste xs at (drop (suc at) xs) (u - 1 - at) → take (at + (u - 1 - at)) ys ≡ without (λ r. r .label) n (take u xs)
-  used-are ys p =
+  -- the places in use, k of them
+  pub used-are : (ys : List (Record D S P)) (k : ℕ) → k ≡ u - 1 → ys ≡ paste xs at (drop (suc at) xs) (u - 1 - at) → take k ys ≡ without (λ r. r .label) n (take u xs)
+  used-are ys k q p =
       let h = at-inside in
       let l = length-drop (suc at) xs in
-      ap (take (at + (u - 1 - at))) p ∙ take-paste xs at (drop (suc at) xs) (u - 1 - at) (omega arith) (omega arith) ∙ moved-are
+      let e : k ≡ at + (u - 1 - at) = omega arith in
+      ap (λ (j : ℕ). take j ys) e ∙ ap (take (at + (u - 1 - at))) p ∙ take-paste xs at (drop (suc at) xs) (u - 1 - at) (omega arith) (omega arith) ∙ moved-are
 
-  pub left-apart : (ys : List (Record D S P)) → ys ≡ paste xs at (drop (suc at) xs) (u - 1 - at) → apart (labels (take u xs)) ≡ true → apart (labels (take (at + (u - 1 - at)) ys)) ≡ true
-  left-apart ys p a = ap (λ (ws : List (Record D S P)). apart (labels ws)) (used-are ys p) ∙ fewer-apart (λ (r : Record D S P). r .label) n (take u xs) a
+  pub left-apart : (ys : List (Record D S P)) (k : ℕ) → k ≡ u - 1 → ys ≡ paste xs at (drop (suc at) xs) (u - 1 - at) → apart (labels (take u xs)) ≡ true → apart (labels (take k ys)) ≡ true
+  left-apart ys k q p a = ap (λ (ws : List (Record D S P)). apart (labels ws)) (used-are ys k q p) ∙ fewer-apart (λ (r : Record D S P). r .label) n (take u xs) a

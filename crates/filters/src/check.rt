@@ -9,17 +9,23 @@ use crate::filter::Prefix;
 use kinds::address::Address;
 use kinds::cost::Cost;
 
-// Whether a bit is set behind the prefix's length.
-pub fn has_stray_bit<A: Address>(prefix: &Prefix<A>) -> bool
-    ensures { λ r. ⌜ r ≡ stray (now (prefix .entry) .length) (A·Address .string (now (prefix .entry) .address)) ⌝ }
+// Whether a bit of the address is set at a place or behind it.
+fn has_bit_from<A: Address>(address: &A, first: u32) -> bool
+    ensures { λ r. ⌜ r ≡ stray first (A·Address .string (now (address .entry))) ⌝ }
 {
-    let address = prefix.address;
-    for i in prefix.length as u32..A::width_in_bits() {
+    for i in first..A::width_in_bits() {
         if address.bit(i) {
             return true;
         }
     }
     false
+}
+
+// Whether a bit is set behind the prefix's length.
+pub fn has_stray_bit<A: Address>(prefix: &Prefix<A>) -> bool
+    ensures { λ r. ⌜ r ≡ stray (now (prefix .entry) .length) (A·Address .string (now (prefix .entry) .address)) ⌝ }
+{
+    has_bit_from(&prefix.address, prefix.length as u32)
 }
 
 // The first refusal of two prefixes and a directive.

@@ -26,11 +26,10 @@ returns g c =
     let n = one-at (c .args .places .now) (c .args .at) (c .index-places-at .result) (c .if-at-places .left) (c .index-places-at .is) in
     record
     { meaning =
-        ap (λ (o : Option (Filter (g .D .Denot) (g .S .Denot) (g .C .Denot))). listOf (mapped (ruleOf (g .D·Address .string) (g .S·Address .string)) o)) (c .ok .ensures .value)
-        ∙ sym (c .to-filter .ensures .meaning)
+        c .filter-of .ensures .meaning
         ∙ sym (append-nil (held (g .D·Address .spells) (g .S·Address .spells) (g .C·Written .reads) (c .index-places-at .result)))
         ∙ sym (ap (rules (g .D·Address .spells) (g .S·Address .spells) (g .C·Written .reads)) n)
     ; back = λ f e.
         let h : c .index-places-at .result ≡ recordOf (g .D·Written .pattern) (g .S·Written .pattern) (g .C·Written .pattern) f = cc in
-        c .ok .ensures .value ∙ ap okPart (c .to-filter .ensures .back f h)
+        c .filter-of .ensures .back f h
     }
