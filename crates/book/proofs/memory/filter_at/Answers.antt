@@ -1,15 +1,8 @@
 use Prim.Native.Nat.{ℕ}
-use mathlib.Core.List.{List, [], _∷_, _++_}
 use mathlib.Core.Path.{_≡_, sym, ap, _∙_}
 use native.Mathlib.Omega.{arith}
-use Rattle.std.specs.declared.option.Option.{Option}
-use Rattle.std.specs.Options.{mapped}
-use Rattle.std.specs.Results.{okPart}
-use Rattle.std.specs.Vec.{listOf}
 use Rattle.std.proofs.shelf.Lists.{append-nil}
-use Rattle.filters.specs.declared.filter.Filter.{Filter}
-use Rattle.filters.specs.declared.filter.Record.{Record}
-use Rattle.filters.specs.Meaning.{ruleOf, recordOf, held, rules}
+use Rattle.filters.specs.Meaning.{recordOf, held, rules}
 use Rattle.book.proofs.Single.{one-at, none-at}
 use Rattle.book.proofs.memory.filter_at.Needs as need
 

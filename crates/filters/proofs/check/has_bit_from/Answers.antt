@@ -1,7 +1,5 @@
-use Prim.Native.Nat.{_<_, _≤_}
-use mathlib.Core.Path.{_≡_, sym, _∙_}
+use mathlib.Core.Path.{sym, _∙_}
 use native.Mathlib.Omega.{arith}
-use lib.ListN.{length}
 use Rattle.filters.proofs.Strays.{stray-more, stray-all}
 use Rattle.filters.proofs.check.has_bit_from.Needs as need
 
