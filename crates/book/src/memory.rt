@@ -48,7 +48,10 @@ pub(crate) fn take_out<R: Copy>(places: &mut [R], used: usize, at: usize) -> usi
 }
 
 // The first place of a label.
-pub(crate) fn find<D: Copy, S: Copy, C: Copy>(places: &[Record<D, S, C>], label: u16) -> Option<usize>
+pub(crate) fn find<D: Copy, S: Copy, C: Copy>(
+    places: &[Record<D, S, C>],
+    label: u16,
+) -> Option<usize>
     ensures { λ r. ⌜ Cases r (has label (labels (now (places .entry))) ≡ false) (λ k. FirstAt label (labels (now (places .entry))) k) ⌝ }
 {
     for (i, place) in places.iter().enumerate() {
@@ -60,7 +63,9 @@ pub(crate) fn find<D: Copy, S: Copy, C: Copy>(places: &[Record<D, S, C>], label:
 }
 
 // The filter that a place holds, if it holds one.
-fn filter_of<D: Address, S: Address, C: Cost>(place: &Record<D::Pattern, S::Pattern, C::Pattern>) -> Option<Filter<D, S, C>>
+fn filter_of<D: Address, S: Address, C: Cost>(
+    place: &Record<D::Pattern, S::Pattern, C::Pattern>,
+) -> Option<Filter<D, S, C>>
     ensures meaning { λ r. ⌜ listOf (mapped (ruleOf (D·Address .string) (S·Address .string)) r) ≡ held (D·Address .spells) (S·Address .spells) (C·Written .reads) (now (place .entry)) ⌝ }
     ensures back { λ r. ⌜ ((f : Filter D S C) → now (place .entry) ≡ recordOf (D·Written .pattern) (S·Written .pattern) (C·Written .pattern) f → r ≡ Some f) ⌝ }
 {
@@ -68,7 +73,10 @@ fn filter_of<D: Address, S: Address, C: Cost>(place: &Record<D::Pattern, S::Patt
 }
 
 // The filter that a place holds; none behind the last place.
-pub(crate) fn filter_at<D: Address, S: Address, C: Cost>(places: &[Record<D::Pattern, S::Pattern, C::Pattern>], at: usize) -> Option<Filter<D, S, C>>
+pub(crate) fn filter_at<D: Address, S: Address, C: Cost>(
+    places: &[Record<D::Pattern, S::Pattern, C::Pattern>],
+    at: usize,
+) -> Option<Filter<D, S, C>>
     ensures meaning { λ r. ⌜ listOf (mapped (ruleOf (D·Address .string) (S·Address .string)) r) ≡ rules (D·Address .spells) (S·Address .spells) (C·Written .reads) (take 1 (drop at (now (places .entry)))) ⌝ }
     ensures back { λ r. ⌜ ((f : Filter D S C) → take 1 (drop at (now (places .entry))) ≡ recordOf (D·Written .pattern) (S·Written .pattern) (C·Written .pattern) f ∷ [] → r ≡ Some f) ⌝ }
 {

@@ -24,7 +24,11 @@ fn no_place() -> Result<(), Fail> {
     check(book.get(0).is_none())?;
     check(book.withdraw(1).is_err())?;
     book.clear();
-    check(linear_search::<Socket, Socket, Rank>(book.records(), &Socket::of(0), &Socket::of(0)).is_none())
+    check(linear_search::<Socket, Socket, Rank>(
+        book.records(),
+        &Socket::of(0),
+        &Socket::of(0),
+    ).is_none())
 }
 
 #[test]
@@ -59,7 +63,12 @@ fn most_places() -> Result<(), Fail> {
     book.withdraw(2000)?;
     book.add(&any(4096))?;
     check_eq(number(book.add(&any(2000))), 6)?;
-    let labels = (memory[0].label, memory[1998].label, memory[1999].label, memory[4094].label);
+    let labels = (
+        memory[0].label,
+        memory[1998].label,
+        memory[1999].label,
+        memory[4094].label,
+    );
     check_eq(labels, (1, 1999, 2001, 4096))?;
     check_eq((memory[4095].label, memory[4096].label), (1, 1))
 }

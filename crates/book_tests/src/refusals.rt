@@ -22,8 +22,14 @@ type Steering = Filter<Ipv4, Socket, Rank>;
 
 const JUNK: Record<u32, u16, u32> = Record {
     label: 2,
-    destination: Prefix { address: 0xdead_beef, length: 77 },
-    source: Prefix { address: 0xbeef, length: 99 },
+    destination: Prefix {
+        address: 0xdead_beef,
+        length: 77,
+    },
+    source: Prefix {
+        address: 0xbeef,
+        length: 99,
+    },
     cost: 0xffff_ffff,
     directive: Directive::Reserve { line: 0, rate: 0 },
 };
@@ -56,9 +62,42 @@ const CASES: [(u16, u32, u8, u16, u8, Directive, u8); 39] = [
     (1, 0, 0, 0, 0, Directive::Line(64), 4),
     (1, 0, 0, 0, 0, Directive::Reserve { line: 0, rate: 1 }, 4),
     (1, 0, 0, 0, 0, Directive::Reserve { line: 1, rate: 1 }, 0),
-    (1, 0, 0, 0, 0, Directive::Reserve { line: 63, rate: 16_777_215 }, 0),
-    (1, 0, 0, 0, 0, Directive::Reserve { line: 64, rate: 16_777_215 }, 4),
-    (1, 0, 0, 0, 0, Directive::Reserve { line: 63, rate: 16_777_216 }, 4),
+    (
+        1,
+        0,
+        0,
+        0,
+        0,
+        Directive::Reserve {
+            line: 63,
+            rate: 16_777_215,
+        },
+        0,
+    ),
+    (
+        1,
+        0,
+        0,
+        0,
+        0,
+        Directive::Reserve {
+            line: 64,
+            rate: 16_777_215,
+        },
+        4,
+    ),
+    (
+        1,
+        0,
+        0,
+        0,
+        0,
+        Directive::Reserve {
+            line: 63,
+            rate: 16_777_216,
+        },
+        4,
+    ),
     (1, 0, 0, 0, 0, Directive::Reserve { line: 1, rate: 0 }, 4),
     (9, 0, 0, 0, 0, BLOCK, 5),
     (8, 0, 0, 0, 0, BLOCK, 0),
@@ -76,14 +115,35 @@ const CASES: [(u16, u32, u8, u16, u8, Directive, u8); 39] = [
 ];
 
 // Adds a filter behind label 9 in memory of so many places; a refused filter leaves everything as it was.
-fn attempt(memory: &mut [Record<u32, u16, u32>], filter: &Steering, refusal: u8) -> Result<(), Fail> {
+fn attempt(
+    memory: &mut [Record<u32, u16, u32>],
+    filter: &Steering,
+    refusal: u8,
+) -> Result<(), Fail> {
     let mut book = Book::<Ipv4, Socket, Rank>::new(memory);
-    let first = Prefix { address: Ipv4::new(0), length: 0 };
-    let second = Prefix { address: Socket::of(0), length: 0 };
-    book.add(&Filter { label: 9, destination: first, source: second, cost: Rank::new(0), directive: BLOCK })?;
+    let first = Prefix {
+        address: Ipv4::new(0),
+        length: 0,
+    };
+    let second = Prefix {
+        address: Socket::of(0),
+        length: 0,
+    };
+    book.add(
+        &Filter {
+            label: 9,
+            destination: first,
+            source: second,
+            cost: Rank::new(0),
+            directive: BLOCK,
+        },
+    )?;
     check_eq(number(book.add(filter)), refusal).note(filter.label)?;
     check_eq(book.len(), if refusal == 0 { 2 } else { 1 })?;
-    check_eq(book.contains(filter.label), refusal == 0 || filter.label == 9)
+    check_eq(
+        book.contains(filter.label),
+        refusal == 0 || filter.label == 9,
+    )
 }
 
 #[test]
@@ -91,8 +151,14 @@ fn in_order() -> Result<(), Fail> {
     for (label, destination, length, source, source_length, directive, refusal) in CASES {
         let filter = Filter {
             label,
-            destination: Prefix { address: Ipv4::new(destination), length },
-            source: Prefix { address: Socket::of(source), length: source_length },
+            destination: Prefix {
+                address: Ipv4::new(destination),
+                length,
+            },
+            source: Prefix {
+                address: Socket::of(source),
+                length: source_length,
+            },
             cost: Rank::new(3),
             directive,
         };

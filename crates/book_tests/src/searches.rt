@@ -1,8 +1,8 @@
 // Linear search and standings on small books; the labels expected were worked out by hand.
+use crate::places::JUNK;
 use book::book::Book;
 use book::fault::AddFaultDebug;
 use book::fault::WithdrawFaultDebug;
-use crate::places::JUNK;
 use filters::directive::Directive;
 use filters::filter::Filter;
 use filters::filter::Prefix;
@@ -26,7 +26,11 @@ use kinds::tariff::TariffWritten;
 use std::test::*;
 
 // The label found, 0 for none.
-fn found<D: Address, S: Address, C: Cost>(places: &[Record<D::Pattern, S::Pattern, C::Pattern>], destination: D::Pattern, source: S::Pattern) -> u16 {
+fn found<D: Address, S: Address, C: Cost>(
+    places: &[Record<D::Pattern, S::Pattern, C::Pattern>],
+    destination: D::Pattern,
+    source: S::Pattern,
+) -> u16 {
     match linear_search::<D, S, C>(places, &D::of(destination), &S::of(source)) {
         Some(filter) => filter.label,
         None => 0,
@@ -57,8 +61,14 @@ fn five(i: usize, cost_of_three: u32) -> Option<Filter<Socket, Socket, Rank>> {
     let (label, destination, length, source, source_length, cost, _) = *FIVE.get(i)?;
     Some(Filter {
         label,
-        destination: Prefix { address: Socket::of(destination), length },
-        source: Prefix { address: Socket::of(source), length: source_length },
+        destination: Prefix {
+            address: Socket::of(destination),
+            length,
+        },
+        source: Prefix {
+            address: Socket::of(source),
+            length: source_length,
+        },
         cost: Rank::new(if label == 3 { cost_of_three } else { cost }),
         directive: Directive::Line(1),
     })
@@ -78,15 +88,27 @@ fn five_filters() -> Result<(), Fail> {
             other.add(&five(next, 30).ok_or(i)?)?;
         }
         for (destination, source, label, _, with_thirty) in SEARCHES {
-            check_eq(found::<Socket, Socket, Rank>(book.records(), destination, source), label)?;
-            check_eq(found::<Socket, Socket, Rank>(other.records(), destination, source), with_thirty)?;
+            check_eq(
+                found::<Socket, Socket, Rank>(book.records(), destination, source),
+                label,
+            )?;
+            check_eq(
+                found::<Socket, Socket, Rank>(other.records(), destination, source),
+                with_thirty,
+            )?;
         }
         for (label, _, _, _, _, cost, better) in FIVE {
-            check_eq(standing::<Socket, Socket, Rank>(book.records(), &Rank::new(cost), label), better)?;
+            check_eq(
+                standing::<Socket, Socket, Rank>(book.records(), &Rank::new(cost), label),
+                better,
+            )?;
         }
         book.withdraw(3)?;
         for (destination, source, _, without_three, _) in SEARCHES {
-            check_eq(found::<Socket, Socket, Rank>(book.records(), destination, source), without_three)?;
+            check_eq(
+                found::<Socket, Socket, Rank>(book.records(), destination, source),
+                without_three,
+            )?;
         }
     }
     Ok(())
@@ -113,30 +135,56 @@ const CHOICES: [(u32, u32, u16); 5] = [
 ];
 
 // cost, label, and how many of the filters are better
-const STANDINGS: [(u8, u32, u16, usize); 6] =
-    [(0, 0, 1, 0), (0, 268_435_455, 12, 0), (1, 400, 14, 1), (1, 400, 15, 2), (1, 500, 10, 3), (9, 1, 1, 5)];
+const STANDINGS: [(u8, u32, u16, usize); 6] = [
+    (0, 0, 1, 0),
+    (0, 268_435_455, 12, 0),
+    (1, 400, 14, 1),
+    (1, 400, 15, 2),
+    (1, 500, 10, 3),
+    (9, 1, 1, 5),
+];
 
 #[test]
 fn tariffs() -> Result<(), Fail> {
     let mut memory: [Record<u32, u32, u32>; 6] = [Record {
         label: 0,
-        destination: Prefix { address: 0, length: 0 },
-        source: Prefix { address: 0, length: 0 },
+        destination: Prefix {
+            address: 0,
+            length: 0,
+        },
+        source: Prefix {
+            address: 0,
+            length: 0,
+        },
         cost: 0,
         directive: Directive::Block,
     }; 6];
-    for (place, (label, destination, length, source, source_length, cost)) in memory.iter_mut().zip(TARIFFS) {
+    for (place, (label, destination, length, source, source_length, cost)) in memory
+        .iter_mut()
+        .zip(TARIFFS) {
         place.label = label;
-        place.destination = Prefix { address: destination, length };
-        place.source = Prefix { address: source, length: source_length };
+        place.destination = Prefix {
+            address: destination,
+            length,
+        };
+        place.source = Prefix {
+            address: source,
+            length: source_length,
+        };
         place.cost = cost;
     }
     for (destination, source, label) in CHOICES {
-        check_eq(found::<Ipv4, Ipv4, Tariff>(&memory, destination, source), label)?;
+        check_eq(
+            found::<Ipv4, Ipv4, Tariff>(&memory, destination, source),
+            label,
+        )?;
     }
     for (class, price, label, better) in STANDINGS {
         let cost = Tariff::new(class, price).ok_or(price)?;
-        check_eq(standing::<Ipv4, Ipv4, Tariff>(&memory, &cost, label), better)?;
+        check_eq(
+            standing::<Ipv4, Ipv4, Tariff>(&memory, &cost, label),
+            better,
+        )?;
     }
     Ok(())
 }

@@ -29,7 +29,11 @@ pub fn has_stray_bit<A: Address>(prefix: &Prefix<A>) -> bool
 }
 
 // The first refusal of two prefixes and a directive.
-pub fn check_body<D: Address, S: Address>(destination: &Prefix<D>, source: &Prefix<S>, directive: Directive) -> Result<(), FilterFault>
+pub fn check_body<D: Address, S: Address>(
+    destination: &Prefix<D>,
+    source: &Prefix<S>,
+    directive: Directive,
+) -> Result<(), FilterFault>
     ensures { λ r. ⌜ r ≡ bodyVerdict (D·Address .string) (S·Address .string) (D·Address .width) (S·Address .width) (now (destination .entry)) (now (source .entry)) directive ⌝ }
 {
     if destination.length as u32 > D::width_in_bits() || source.length as u32 > S::width_in_bits() {
@@ -45,7 +49,10 @@ pub fn check_body<D: Address, S: Address>(destination: &Prefix<D>, source: &Pref
 }
 
 // The first refusal of a filter; `used` says whether its label is in use already.
-pub fn check_filter<D: Address, S: Address, C: Cost>(filter: &Filter<D, S, C>, used: bool) -> Result<(), FilterFault>
+pub fn check_filter<D: Address, S: Address, C: Cost>(
+    filter: &Filter<D, S, C>,
+    used: bool,
+) -> Result<(), FilterFault>
     ensures { λ r. ⌜ r ≡ filterVerdict (D·Address .string) (S·Address .string) (D·Address .width) (S·Address .width) used (now (filter .entry)) ⌝ }
 {
     if filter.label == 0 {

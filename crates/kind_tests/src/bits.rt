@@ -19,7 +19,10 @@ const SOCKET: &str = "1001100001000110";
 fn spells<A: Address>(address: &A, text: &str) -> Result<(), Fail> {
     check_eq(A::width_in_bits() as usize, text.len())?;
     for i in 0..A::width_in_bits() {
-        check_eq(address.bit(i), text.as_bytes().get(i as usize) == Some(&b'1')).note(i)?;
+        check_eq(
+            address.bit(i),
+            text.as_bytes().get(i as usize) == Some(&b'1'),
+        ).note(i)?;
     }
     for i in [A::width_in_bits(), 129, 255, 256, 0x8000_0000, u32::MAX] {
         check_eq(address.bit(i), false).note(i)?;

@@ -26,8 +26,15 @@ const SOCKETS: [(u8, u8, u8, u16); 9] = [
 ];
 
 // one number too large for its bits
-const NO_SOCKETS: [(u8, u8, u8); 7] =
-    [(16, 0, 0), (0, 64, 0), (0, 0, 64), (16, 63, 63), (15, 64, 63), (15, 63, 64), (255, 255, 255)];
+const NO_SOCKETS: [(u8, u8, u8); 7] = [
+    (16, 0, 0),
+    (0, 64, 0),
+    (0, 0, 64),
+    (16, 63, 63),
+    (15, 64, 63),
+    (15, 63, 64),
+    (255, 255, 255),
+];
 
 // class and price, and their bits one behind the other
 const TARIFFS: [(u8, u32, u32); 7] = [
@@ -40,12 +47,26 @@ const TARIFFS: [(u8, u32, u32); 7] = [
     (5, 0xabcdef, 0x50ab_cdef),
 ];
 
-const NO_TARIFFS: [(u8, u32); 6] =
-    [(10, 0), (0, 268_435_456), (10, 268_435_455), (9, 268_435_456), (255, 1), (0, 0xffff_ffff)];
+const NO_TARIFFS: [(u8, u32); 6] = [
+    (10, 0),
+    (0, 268_435_456),
+    (10, 268_435_455),
+    (9, 268_435_456),
+    (255, 1),
+    (0, 0xffff_ffff),
+];
 
 // classes from 10 to 15
-const UNLAWFUL: [u32; 8] =
-    [0xa000_0000, 0xafff_ffff, 0xb000_0000, 0xb000_0001, 0xc000_0000, 0xd123_4567, 0xe000_0000, 0xffff_ffff];
+const UNLAWFUL: [u32; 8] = [
+    0xa000_0000,
+    0xafff_ffff,
+    0xb000_0000,
+    0xb000_0001,
+    0xc000_0000,
+    0xd123_4567,
+    0xe000_0000,
+    0xffff_ffff,
+];
 
 #[test]
 fn sockets() -> Result<(), Fail> {
@@ -54,7 +75,10 @@ fn sockets() -> Result<(), Fail> {
         check_eq(made.write(), pattern)?;
         let read = Socket::read(pattern)?;
         check_eq(read, made)?;
-        check_eq((read.hall(), read.row(), read.socket()), (hall, row, socket))?;
+        check_eq(
+            (read.hall(), read.row(), read.socket()),
+            (hall, row, socket),
+        )?;
     }
     for (hall, row, socket) in NO_SOCKETS {
         check(Socket::new(hall, row, socket).is_none()).note(hall)?;

@@ -37,26 +37,79 @@ const IPV4: [(u32, u32, u32, bool); 9] = [
 
 // 2001:db8:: and addresses in and beside it
 const IPV6: [(u128, u32, u128, bool); 8] = [
-    (0x2001_0db8_0000_0000_0000_0000_0000_0000, 32, 0x2001_0db8_ffff_ffff_ffff_ffff_ffff_ffff, true),
-    (0x2001_0db8_0000_0000_0000_0000_0000_0000, 32, 0x2001_0db9_0000_0000_0000_0000_0000_0000, false),
-    (0x2001_0db8_0000_0000_0000_0000_0000_0000, 31, 0x2001_0db9_0000_0000_0000_0000_0000_0000, true),
-    (0x2001_0db8_0000_0000_0000_0000_0000_0000, 64, 0x2001_0db8_0000_0001_0000_0000_0000_0000, false),
-    (0x2001_0db8_0000_0000_0000_0000_0000_0000, 63, 0x2001_0db8_0000_0001_0000_0000_0000_0000, true),
-    (0x2001_0db8_0000_0000_0000_0000_0000_0001, 128, 0x2001_0db8_0000_0000_0000_0000_0000_0001, true),
-    (0x2001_0db8_0000_0000_0000_0000_0000_0001, 128, 0x2001_0db8_0000_0000_0000_0000_0000_0000, false),
-    (0x2001_0db8_0000_0000_0000_0000_0000_0001, 127, 0x2001_0db8_0000_0000_0000_0000_0000_0000, true),
+    (
+        0x2001_0db8_0000_0000_0000_0000_0000_0000,
+        32,
+        0x2001_0db8_ffff_ffff_ffff_ffff_ffff_ffff,
+        true,
+    ),
+    (
+        0x2001_0db8_0000_0000_0000_0000_0000_0000,
+        32,
+        0x2001_0db9_0000_0000_0000_0000_0000_0000,
+        false,
+    ),
+    (
+        0x2001_0db8_0000_0000_0000_0000_0000_0000,
+        31,
+        0x2001_0db9_0000_0000_0000_0000_0000_0000,
+        true,
+    ),
+    (
+        0x2001_0db8_0000_0000_0000_0000_0000_0000,
+        64,
+        0x2001_0db8_0000_0001_0000_0000_0000_0000,
+        false,
+    ),
+    (
+        0x2001_0db8_0000_0000_0000_0000_0000_0000,
+        63,
+        0x2001_0db8_0000_0001_0000_0000_0000_0000,
+        true,
+    ),
+    (
+        0x2001_0db8_0000_0000_0000_0000_0000_0001,
+        128,
+        0x2001_0db8_0000_0000_0000_0000_0000_0001,
+        true,
+    ),
+    (
+        0x2001_0db8_0000_0000_0000_0000_0000_0001,
+        128,
+        0x2001_0db8_0000_0000_0000_0000_0000_0000,
+        false,
+    ),
+    (
+        0x2001_0db8_0000_0000_0000_0000_0000_0001,
+        127,
+        0x2001_0db8_0000_0000_0000_0000_0000_0000,
+        true,
+    ),
 ];
 
 #[test]
 fn of_each_kind() -> Result<(), Fail> {
     for (prefix, length, address, agrees) in SOCKETS {
-        check_eq(is_prefix(&SocketAddress::of(prefix), length, &SocketAddress::of(address)), agrees).note(length)?;
+        check_eq(
+            is_prefix(
+                &SocketAddress::of(prefix),
+                length,
+                &SocketAddress::of(address),
+            ),
+            agrees,
+        ).note(length)?;
     }
     for (prefix, length, address, agrees) in IPV4 {
-        check_eq(is_prefix(&Ipv4::new(prefix), length, &Ipv4::new(address)), agrees).note(length)?;
+        check_eq(
+            is_prefix(&Ipv4::new(prefix), length, &Ipv4::new(address)),
+            agrees,
+        ).note(length)?;
     }
     for (prefix, length, address, agrees) in IPV6 {
-        check_eq(is_prefix(&Ipv6::new(prefix), length, &Ipv6::new(address)), agrees).note(length)?;
+        check_eq(
+            is_prefix(&Ipv6::new(prefix), length, &Ipv6::new(address)),
+            agrees,
+        ).note(length)?;
     }
     Ok(())
 }
