@@ -29,13 +29,13 @@ module _ {X : Type 0} (label : X → ℕ) where
   fewer-apart n (x ∷ xs) a =
       let p = and-parts (not (eqb (label x) 0)) (not (has (label x) (map label xs)) && apart (map label xs)) a in
       let q = and-parts (not (has (label x) (map label xs))) (apart (map label xs)) (p .1) in
-      elim (eqb (label x) n) as (λ t. apart (map label (cond t xs (x ∷ without label n xs))) ≡ true)
-      [ true ↦ q .1
-      | false ↦
-          and-from (not (eqb (label x) 0)) (not (has (label x) (map label (without label n xs))) && apart (map label (without label n xs))) (p .0)
-          (and-from (not (has (label x) (map label (without label n xs)))) (apart (map label (without label n xs)))
-           (not-from-false (has (label x) (map label (without label n xs))) (still-none n (label x) xs (not-true (has (label x) (map label xs)) (q .0))))
-           (fewer-apart n xs (q .1)))
+      elim (eqb (label x) n) as (λ t. apart (map label (cond t xs (x ∷ without label n xs))) ≡ true) [
+        | true ↦ q .1
+        | false ↦
+            and-from (not (eqb (label x) 0)) (not (has (label x) (map label (without label n xs))) && apart (map label (without label n xs))) (p .0)
+            (and-from (not (has (label x) (map label (without label n xs)))) (apart (map label (without label n xs)))
+            (not-from-false (has (label x) (map label (without label n xs))) (still-none n (label x) xs (not-true (has (label x) (map label xs)) (q .0))))
+            (fewer-apart n xs (q .1)))
       ]
 
 module _ {D S P : Type 0} (xs : List (Record D S P)) (u at n : ℕ) (fits : u ≤ length xs) (found : FirstAt n (labels (take u xs)) at) where
@@ -49,9 +49,9 @@ module _ {D S P : Type 0} (xs : List (Record D S P)) (u at n : ℕ) (fits : u �
       let e : suc at + (u - 1 - at) ≡ u = omega arith in
       sym
       (without-at (λ (r : Record D S P). r .label) n (take u xs) at found
-       ∙ ap (λ (ys : List (Record D S P)). ys ++ drop (suc at) (take u xs)) (take-take at u xs (omega arith))
-       ∙ ap (λ (k : ℕ). take at xs ++ drop (suc at) (take k xs)) (sym e)
-       ∙ ap (λ (ys : List (Record D S P)). take at xs ++ ys) (drop-take (suc at) (u - 1 - at) xs))
+      ∙ ap (λ (ys : List (Record D S P)). ys ++ drop (suc at) (take u xs)) (take-take at u xs (omega arith))
+      ∙ ap (λ (k : ℕ). take at xs ++ drop (suc at) (take k xs)) (sym e)
+      ∙ ap (λ (ys : List (Record D S P)). take at xs ++ ys) (drop-take (suc at) (u - 1 - at) xs))
 
   pub memory-is : (ys : List (Record D S P)) → ys ≡ paste xs at (drop (suc at) xs) (u - 1 - at) → ys ≡ without (λ r. r .label) n (take u xs) ++ drop (u - 1) xs
   memory-is ys p =
@@ -61,12 +61,13 @@ module _ {D S P : Type 0} (xs : List (Record D S P)) (u at n : ℕ) (fits : u �
       ∙ ap (λ (ws : List (Record D S P)). ws ++ drop (at + (u - 1 - at)) xs) moved-are
       ∙ ap (λ (k : ℕ). without (λ r. r .label) n (take u xs) ++ drop k xs) e
 
-  -- the places in use
-  pub used-are : (ys : List (Record D S P)) → ys ≡ paste xs at (drop (suc at) xs) (u - 1 - at) → take (at + (u - 1 - at)) ys ≡ without (λ r. r .label) n (take u xs)
-  used-are ys p =
+  -- the places in use, k of them
+  pub used-are : (ys : List (Record D S P)) (k : ℕ) → k ≡ u - 1 → ys ≡ paste xs at (drop (suc at) xs) (u - 1 - at) → take k ys ≡ without (λ r. r .label) n (take u xs)
+  used-are ys k q p =
       let h = at-inside in
       let l = length-drop (suc at) xs in
-      ap (take (at + (u - 1 - at))) p ∙ take-paste xs at (drop (suc at) xs) (u - 1 - at) (omega arith) (omega arith) ∙ moved-are
+      let e : k ≡ at + (u - 1 - at) = omega arith in
+      ap (λ (j : ℕ). take j ys) e ∙ ap (take (at + (u - 1 - at))) p ∙ take-paste xs at (drop (suc at) xs) (u - 1 - at) (omega arith) (omega arith) ∙ moved-are
 
-  pub left-apart : (ys : List (Record D S P)) → ys ≡ paste xs at (drop (suc at) xs) (u - 1 - at) → apart (labels (take u xs)) ≡ true → apart (labels (take (at + (u - 1 - at)) ys)) ≡ true
-  left-apart ys p a = ap (λ (ws : List (Record D S P)). apart (labels ws)) (used-are ys p) ∙ fewer-apart (λ (r : Record D S P). r .label) n (take u xs) a
+  pub left-apart : (ys : List (Record D S P)) (k : ℕ) → k ≡ u - 1 → ys ≡ paste xs at (drop (suc at) xs) (u - 1 - at) → apart (labels (take u xs)) ≡ true → apart (labels (take k ys)) ≡ true
+  left-apart ys k q p a = ap (λ (ws : List (Record D S P)). apart (labels ws)) (used-are ys k q p) ∙ fewer-apart (λ (r : Record D S P). r .label) n (take u xs) a

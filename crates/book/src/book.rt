@@ -22,12 +22,13 @@ ghost use Rattle.book.specs.Books.{capacityOf, addVerdict, withdrawVerdict, af
 use crate::fault::AddFault;
 use crate::fault::AddFaultFromFilter;
 use crate::fault::WithdrawFault;
-use crate::memory::close;
 use crate::memory::filter_at;
 use crate::memory::find;
 use crate::memory::put;
+use crate::memory::take_out;
 use filters::check::check_filter;
 use filters::convert::to_record;
+use filters::fault::FilterFault;
 use filters::filter::Filter;
 use filters::filter::Record;
 use kinds::address::Address;
@@ -109,6 +110,13 @@ impl<'m, D: Address, S: Address, C: Cost> Book<'m, D, S, C> {
         filter_at(self.records(), at)
     }
 
+    // The first refusal of a filter that comes to this book.
+    fn check(&self, filter: &Filter<D, S, C>) -> Result<(), FilterFault>
+        ensures { λ r. ⌜ r ≡ filterVerdict (D·Address .string) (S·Address .string) (D·Address .width) (S·Address .width) (has (now (filter .entry) .label) (labels (take (now (self .entry) .used) (now (now (self .entry) .places))))) (now (filter .entry)) ⌝ }
+    {
+        check_filter(filter, self.contains(filter.label))
+    }
+
     // Puts a filter behind the last. A refused filter changes nothing.
     pub fn add(&mut self, filter: &Filter<D, S, C>) -> Result<(), AddFault>
         ensures answer { λ r. ⌜ r ≡ addVerdict (capacityOf (length (now (now (self .entry) .places)))) (now (self .entry) .used) (filterVerdict (D·Address .string) (S·Address .string) (D·Address .width) (S·Address .width) (has (now (filter .entry) .label) (labels (take (now (self .entry) .used) (now (now (self .entry) .places))))) (now (filter .entry))) ⌝ }
@@ -116,7 +124,7 @@ impl<'m, D: Address, S: Address, C: Cost> Book<'m, D, S, C> {
         ensures count { λ r. ⌜ now (self .exit) .used ≡ after r (now (self .entry) .used + 1) (now (self .entry) .used) ⌝ }
         ensures meaning { λ r. ⌜ rules (D·Address .spells) (S·Address .spells) (C·Written .reads) (take (now (self .exit) .used) (now (now (self .exit) .places))) ≡ after r (rules (D·Address .spells) (S·Address .spells) (C·Written .reads) (take (now (self .entry) .used) (now (now (self .entry) .places))) ++ ruleOf (D·Address .string) (S·Address .string) (now (filter .entry)) ∷ []) (rules (D·Address .spells) (S·Address .spells) (C·Written .reads) (take (now (self .entry) .used) (now (now (self .entry) .places)))) ⌝ }
     {
-        check_filter(filter, self.contains(filter.label))?;
+        self.check(filter)?;
         if self.used >= self.capacity() {
             return Err(AddFault::Full);
         }
@@ -137,10 +145,8 @@ impl<'m, D: Address, S: Address, C: Cost> Book<'m, D, S, C> {
         let Some(at) = self.place_of(label) else {
             return Err(WithdrawFault::UnknownLabel);
         };
-        let left = self.used - 1 - at;
         let Book { places, used } = self;
-        close(places, at, left);
-        *used = at + left;
+        *used = take_out(places, *used, at);
         Ok(())
     }
 

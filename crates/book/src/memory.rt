@@ -1,5 +1,5 @@
 // Writing places of memory that is lent.
-ghost use Prim.Native.Nat.{ℕ, suc, _+_, _<_};
+ghost use Prim.Native.Nat.{ℕ, suc, _+_, _-_, _≤_, _<_};
 ghost use mathlib.Core.Bool.{false};
 ghost use mathlib.Core.List.{[], _∷_};
 ghost use mathlib.Core.Path.{_≡_};
@@ -9,7 +9,7 @@ ghost use Rattle.std.specs.declared.option.Option.the-variants.{Some};
 ghost use Rattle.std.specs.Options.{Cases, mapped};
 ghost use Rattle.std.specs.Vec.{listOf};
 ghost use Rattle.filters.specs.declared.filter.Filter.{Filter};
-ghost use Rattle.filters.specs.Meaning.{recordOf, ruleOf, rules};
+ghost use Rattle.filters.specs.Meaning.{recordOf, ruleOf, held, rules};
 ghost use Rattle.tables.specs.Verdict.{has};
 ghost use Rattle.book.specs.Labels.{labels, FirstAt};
 use filters::convert::to_filter;
@@ -37,8 +37,22 @@ pub(crate) fn close<R: Copy>(places: &mut [R], at: usize, left: usize)
     }
 }
 
+// Takes one of the first `used` places out: later ones move down, and the last keeps its content. Answers how many are left.
+pub(crate) fn take_out<R: Copy>(places: &mut [R], used: usize, at: usize) -> usize
+    requires { ⌜ at < used ⌝ ∗ ⌜ used ≤ length (now places) ⌝ }
+    ensures memory { λ _. ⌜ now (places .exit) ≡ paste (now (places .entry)) at (drop (suc at) (now (places .entry))) (used - 1 - at) ⌝ }
+    ensures count { λ r. ⌜ r ≡ used - 1 ⌝ }
+{
+    let left = used - 1;
+    close(places, at, left - at);
+    left
+}
+
 // The first place of a label.
-pub(crate) fn find<D: Copy, S: Copy, C: Copy>(places: &[Record<D, S, C>], label: u16) -> Option<usize>
+pub(crate) fn find<D: Copy, S: Copy, C: Copy>(
+    places: &[Record<D, S, C>],
+    label: u16,
+) -> Option<usize>
     ensures { λ r. ⌜ Cases r (has label (labels (now (places .entry))) ≡ false) (λ k. FirstAt label (labels (now (places .entry))) k) ⌝ }
 {
     for (i, place) in places.iter().enumerate() {
@@ -49,13 +63,26 @@ pub(crate) fn find<D: Copy, S: Copy, C: Copy>(places: &[Record<D, S, C>], label:
     None
 }
 
+// The filter that a place holds, if it holds one.
+fn filter_of<D: Address, S: Address, C: Cost>(
+    place: &Record<D::Pattern, S::Pattern, C::Pattern>,
+) -> Option<Filter<D, S, C>>
+    ensures meaning { λ r. ⌜ listOf (mapped (ruleOf (D·Address .string) (S·Address .string)) r) ≡ held (D·Address .spells) (S·Address .spells) (C·Written .reads) (now (place .entry)) ⌝ }
+    ensures back { λ r. ⌜ ((f : Filter D S C) → now (place .entry) ≡ recordOf (D·Written .pattern) (S·Written .pattern) (C·Written .pattern) f → r ≡ Some f) ⌝ }
+{
+    to_filter(place).ok()
+}
+
 // The filter that a place holds; none behind the last place.
-pub(crate) fn filter_at<D: Address, S: Address, C: Cost>(places: &[Record<D::Pattern, S::Pattern, C::Pattern>], at: usize) -> Option<Filter<D, S, C>>
+pub(crate) fn filter_at<D: Address, S: Address, C: Cost>(
+    places: &[Record<D::Pattern, S::Pattern, C::Pattern>],
+    at: usize,
+) -> Option<Filter<D, S, C>>
     ensures meaning { λ r. ⌜ listOf (mapped (ruleOf (D·Address .string) (S·Address .string)) r) ≡ rules (D·Address .spells) (S·Address .spells) (C·Written .reads) (take 1 (drop at (now (places .entry)))) ⌝ }
     ensures back { λ r. ⌜ ((f : Filter D S C) → take 1 (drop at (now (places .entry))) ≡ recordOf (D·Written .pattern) (S·Written .pattern) (C·Written .pattern) f ∷ [] → r ≡ Some f) ⌝ }
 {
     if at >= places.len() {
         return None;
     }
-    to_filter(&places[at]).ok()
+    filter_of(&places[at])
 }

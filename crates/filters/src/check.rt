@@ -9,12 +9,11 @@ use crate::filter::Prefix;
 use kinds::address::Address;
 use kinds::cost::Cost;
 
-// Whether a bit is set behind the prefix's length.
-pub fn has_stray_bit<A: Address>(prefix: &Prefix<A>) -> bool
-    ensures { λ r. ⌜ r ≡ stray (now (prefix .entry) .length) (A·Address .string (now (prefix .entry) .address)) ⌝ }
+// Whether a bit of the address is set at a place or behind it.
+fn has_bit_from<A: Address>(address: &A, first: u32) -> bool
+    ensures { λ r. ⌜ r ≡ stray first (A·Address .string (now (address .entry))) ⌝ }
 {
-    let address = prefix.address;
-    for i in prefix.length as u32..A::width_in_bits() {
+    for i in first..A::width_in_bits() {
         if address.bit(i) {
             return true;
         }
@@ -22,8 +21,19 @@ pub fn has_stray_bit<A: Address>(prefix: &Prefix<A>) -> bool
     false
 }
 
+// Whether a bit is set behind the prefix's length.
+pub fn has_stray_bit<A: Address>(prefix: &Prefix<A>) -> bool
+    ensures { λ r. ⌜ r ≡ stray (now (prefix .entry) .length) (A·Address .string (now (prefix .entry) .address)) ⌝ }
+{
+    has_bit_from(&prefix.address, prefix.length as u32)
+}
+
 // The first refusal of two prefixes and a directive.
-pub fn check_body<D: Address, S: Address>(destination: &Prefix<D>, source: &Prefix<S>, directive: Directive) -> Result<(), FilterFault>
+pub fn check_body<D: Address, S: Address>(
+    destination: &Prefix<D>,
+    source: &Prefix<S>,
+    directive: Directive,
+) -> Result<(), FilterFault>
     ensures { λ r. ⌜ r ≡ bodyVerdict (D·Address .string) (S·Address .string) (D·Address .width) (S·Address .width) (now (destination .entry)) (now (source .entry)) directive ⌝ }
 {
     if destination.length as u32 > D::width_in_bits() || source.length as u32 > S::width_in_bits() {
@@ -39,7 +49,10 @@ pub fn check_body<D: Address, S: Address>(destination: &Prefix<D>, source: &Pref
 }
 
 // The first refusal of a filter; `used` says whether its label is in use already.
-pub fn check_filter<D: Address, S: Address, C: Cost>(filter: &Filter<D, S, C>, used: bool) -> Result<(), FilterFault>
+pub fn check_filter<D: Address, S: Address, C: Cost>(
+    filter: &Filter<D, S, C>,
+    used: bool,
+) -> Result<(), FilterFault>
     ensures { λ r. ⌜ r ≡ filterVerdict (D·Address .string) (S·Address .string) (D·Address .width) (S·Address .width) used (now (filter .entry)) ⌝ }
 {
     if filter.label == 0 {

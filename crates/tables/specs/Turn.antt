@@ -33,7 +33,18 @@ abbrev pub Rewritten : List ℕ → List ℕ → List ℕ → Result ℕ TurnFau
 Rewritten bytes before after (Ok n) = (n ≡ length bytes) × (after ≡ bytes ++ drop n before)
 Rewritten bytes before after (Err e) = after ≡ before
 
--- the first places are the same as those written, and later ones stay; refused, all stay, and that only for want of room
+-- the writing's refusal, or what loading then answers
+abbrev pub writeLoad : Result ℕ WriteFault → Result ℕ LoadFault → Result ℕ TurnFault
+writeLoad (Err e) load = Err (Write e)
+writeLoad (Ok n) (Ok m) = Ok m
+writeLoad (Ok n) (Err e) = Err (Load e)
+
+-- the places are as loading leaves them
+abbrev pub Into : {R : Type 0} → (R → Entry) → List Entry → List R → List R → Result ℕ TurnFault → Type 0
+Into entry rs before after (Ok n) = Loaded entry rs before after (Ok n)
+Into entry rs before after (Err e) = after ≡ before
+
+-- the first places are the same as those written, and later ones stay; only for want of room in the buffer is it refused
 abbrev pub Reloaded : {R : Type 0} → List R → List R → List R → Result ℕ TurnFault → Type 0
 Reloaded places before after (Ok n) = (n ≡ length places) × (take n after ≡ places) × (drop n after ≡ drop n before)
 Reloaded places before after (Err (Write e)) = after ≡ before

@@ -1,7 +1,7 @@
 use mathlib.Core.Path.{_≡_}
 use lib.ListN.{drop}
 use Rattle.filters.specs.Refusals.{stray, anyOne}
-use Rattle.filters.proofs.check.has_stray_bit.Given as given
+use Rattle.filters.proofs.check.has_bit_from.Given as given
 
 -- what is left of the string decides
 abbrev pub Inv-loop-i : given.InvT-loop-i
