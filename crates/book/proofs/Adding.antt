@@ -10,7 +10,6 @@ use Rattle.std.specs.declared.result.Result.{Result}
 use Rattle.std.specs.declared.result.Result.the-variants.{Ok, Err}
 use Rattle.std.proofs.shelf.Lists.{take-more-set}
 use Rattle.std.proofs.shelf.Tests.{and-parts, and-from, or-from, or-parts, ne-eqb, eq-eqb, not-true, not-from-false, le-ltb, lt-ltb, eqb-false}
-
 use Rattle.filters.specs.declared.fault.FilterFault.{FilterFault}
 use Rattle.filters.specs.declared.fault.FilterFault.the-variants.{ZeroLabel, LabelInUse}
 use Rattle.filters.specs.declared.filter.Record.{Record}
@@ -43,7 +42,7 @@ apart-push (m ∷ ls) n a z h =
     let k = or-parts (eqb m n) (has n ls) h in
     let ne : eqb n m ≡ false = ne-eqb n m (λ e. eqb-false m n (k .0) (sym e)) in
     let hs : has m (ls ++ n ∷ []) ≡ false =
-        has-append m ls (n ∷ []) ∙ or-from (has m ls) (eqb n m || false) (not-true (has m ls) (q .0)) (or-from (eqb n m) false ne refl)
+    has-append m ls (n ∷ []) ∙ or-from (has m ls) (eqb n m || false) (not-true (has m ls) (q .0)) (or-from (eqb n m) false ne refl)
     in
     and-from (not (eqb m 0)) (not (has m (ls ++ n ∷ [])) && apart (ls ++ n ∷ [])) (p .0)
     (and-from (not (has m (ls ++ n ∷ []))) (apart (ls ++ n ∷ [])) (not-from-false (has m (ls ++ n ∷ [])) hs) (apart-push ls n (q .1) z (k .1)))

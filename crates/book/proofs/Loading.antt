@@ -39,10 +39,10 @@ pub capacity-same : (D S C : Kind) (pass : ℕ → Bool) (n : ℕ) (bytes : List
 capacity-same D S C pass n bytes =
     let k = count-small bytes in
     let e : ltb n (filterCount bytes) ≡ ltb (min n 4095) (filterCount bytes) =
-        elim (cases-lt n (filterCount bytes)) [
-          | inl h ↦ lt-ltb n (filterCount bytes) h ∙ sym (lt-ltb (min n 4095) (filterCount bytes) (omega arith))
-          | inr h ↦ le-ltb n (filterCount bytes) h ∙ sym (le-ltb (min n 4095) (filterCount bytes) (omega arith))
-        ]
+    elim (cases-lt n (filterCount bytes)) [
+      | inl h ↦ lt-ltb n (filterCount bytes) h ∙ sym (lt-ltb (min n 4095) (filterCount bytes) (omega arith))
+      | inr h ↦ le-ltb n (filterCount bytes) h ∙ sym (le-ltb (min n 4095) (filterCount bytes) (omega arith))
+    ]
     in
     ap
     (λ (t : Bool). behindHead (cond (ltb (length bytes) 4) (Err Short) (cond (sameKinds D S C (headFields bytes)) (cond (eqb (length bytes) (tableSize D S C (filterCount bytes))) (cond {A = Result ℕ TableFault} t (Err Full) (Ok (filterCount bytes))) (Err Length)) (Err OtherKind))) (entriesVerdict D S C pass [] (decode D S C bytes)))

@@ -36,9 +36,9 @@ module _ {D S P C : Type 0} (dst : D → Str) (src : S → Str) (reads : P → O
   fewer-labels n [] h = refl
   fewer-labels n (r ∷ rs) h =
       let p = or-parts (eqb (r .label) n) (has n (labels rs)) h in
-      elim (reads (r .cost)) as (λ o. has n (map (λ f. f .label) (heldAt dst src reads r o ++ rules dst src reads rs)) ≡ false)
-      [ None ↦ fewer-labels n rs (p .1)
-      | Some c ↦ or-from (eqb (r .label) n) (has n (map (λ f. f .label) (rules dst src reads rs))) (p .0) (fewer-labels n rs (p .1))
+      elim (reads (r .cost)) as (λ o. has n (map (λ f. f .label) (heldAt dst src reads r o ++ rules dst src reads rs)) ≡ false) [
+        | None ↦ fewer-labels n rs (p .1)
+        | Some c ↦ or-from (eqb (r .label) n) (has n (map (λ f. f .label) (rules dst src reads rs))) (p .0) (fewer-labels n rs (p .1))
       ]
 
   -- the place with the label is taken out: whether it holds a rule or not, the other rules are left

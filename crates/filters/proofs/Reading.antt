@@ -48,7 +48,7 @@ module _ {D S P C : Type 0} (dst : D → Str) (src : S → Str) (reads : P → O
   count-step p n m xs i x h e f =
       ap (λ (k : ℕ). n + k)
       (at-drop-more (λ (ys : List (Record D S P)). count p (rules dst src reads ys)) xs i x h
-       ∙ ap (λ (y : Record D S P). count p (rules dst src reads (y ∷ drop (i + 1) xs))) (sym e)
-       ∙ count-append p (held dst src reads x) (rules dst src reads (drop (i + 1) xs))
-       ∙ ap (λ (k : ℕ). k + count p (rules dst src reads (drop (i + 1) xs))) (sym f))
+      ∙ ap (λ (y : Record D S P). count p (rules dst src reads (y ∷ drop (i + 1) xs))) (sym e)
+      ∙ count-append p (held dst src reads x) (rules dst src reads (drop (i + 1) xs))
+      ∙ ap (λ (k : ℕ). k + count p (rules dst src reads (drop (i + 1) xs))) (sym f))
       ∙ sym (add-assoc n m (count p (rules dst src reads (drop (i + 1) xs))))

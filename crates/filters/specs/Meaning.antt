@@ -19,12 +19,12 @@ prefixOf string p = take (p .length) (string (p .address))
 -- the rule that a filter states, given the strings of its addresses
 abbrev pub ruleOf : {D S C : Type 0} → (D → Str) → (S → Str) → Filter D S C → Rule C
 ruleOf dst src f =
-    record
-    { label = f .label
-    ; destination = prefixOf dst (f .destination)
-    ; source = prefixOf src (f .source)
-    ; cost = f .cost
-    ; directive = f .directive
+    record {
+      label = f .label;
+      destination = prefixOf dst (f .destination);
+      source = prefixOf src (f .source);
+      cost = f .cost;
+      directive = f .directive;
     }
 
 -- a prefix with another spelling of its address
@@ -34,12 +34,12 @@ respelt spell p = record { address = spell (p .address); length = p .length }
 -- the place that keeps a filter, given the patterns of its addresses and cost
 abbrev pub recordOf : {D S C D′ S′ C′ : Type 0} → (D → D′) → (S → S′) → (C → C′) → Filter D S C → Record D′ S′ C′
 recordOf dst src cost f =
-    record
-    { label = f .label
-    ; destination = respelt dst (f .destination)
-    ; source = respelt src (f .source)
-    ; cost = cost (f .cost)
-    ; directive = f .directive
+    record {
+      label = f .label;
+      destination = respelt dst (f .destination);
+      source = respelt src (f .source);
+      cost = cost (f .cost);
+      directive = f .directive;
     }
 
 -- ---- what places hold, given what the patterns of addresses spell and what the pattern of a cost reads as
@@ -48,12 +48,12 @@ module _ {D S P C : Type 0} (dst : D → Str) (src : S → Str) (reads : P → O
   abbrev pub heldAt : Record D S P → Option C → List (Rule C)
   heldAt r None = []
   heldAt r (Some c) =
-      record
-      { label = r .label
-      ; destination = prefixOf dst (r .destination)
-      ; source = prefixOf src (r .source)
-      ; cost = c
-      ; directive = r .directive
+      record {
+        label = r .label;
+        destination = prefixOf dst (r .destination);
+        source = prefixOf src (r .source);
+        cost = c;
+        directive = r .directive;
       }
       ∷ []
 

@@ -14,13 +14,17 @@ pub trait Address: Written {
 
     // the number of bits, the string that a pattern spells, and the string that a value means
     ghost width: { ℕ };
+
     ghost spells: { Self·Pattern → Str };
+
     ghost string: { Self → Str };
 
     law span: { width ≡ Self·Written .size };
     // a pattern spells its bits, the most significant first, and a value means what its pattern spells
     law first: { (p : Self·Pattern) → spells p ≡ bits width (Self·Written .number p) };
+
     law spelt: { (x : Self) → string x ≡ spells (Self·Written .pattern x) };
+
     law long: { (x : Self) → length (string x) ≡ width };
     // every pattern is lawful
     law every: { (p : Self·Pattern) → Self·Written .number p < 2 ^ width → isSome (Self·Written .reads p) ≡ true };

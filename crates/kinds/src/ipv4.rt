@@ -40,13 +40,19 @@ impl Ipv4 {
 
 pub impl Written for Ipv4 as Ipv4Written {
     type Pattern = u32;
+
     const CODE: u8 = 1;
 
     ghost code = { 1 };
+
     ghost size = { 32 };
+
     ghost number = { λ p. p };
+
     ghost pattern = { λ x. x .number };
+
     ghost reads = { below (2 ^ 32) (λ n h. record { number = n; fits = h }) };
+
     ghost value = { below (2 ^ 32) (λ n h. record { number = n; fits = h }) };
 
     fn kind() -> u8 {
@@ -70,7 +76,9 @@ pub impl Address for Ipv4 as Ipv4Address {
     const WIDTH: u32 = 32;
 
     ghost width = { 32 };
+
     ghost spells = { bits 32 };
+
     ghost string = { λ x. bits 32 (x .number) };
 
     fn width_in_bits() -> u32 {
@@ -82,6 +90,10 @@ pub impl Address for Ipv4 as Ipv4Address {
     }
 
     fn bit(&self, i: u32) -> bool {
-        if i < Self::WIDTH { self.has_bit(31 - i) } else { false }
+        if i < Self::WIDTH {
+            self.has_bit(31 - i)
+        } else {
+            false
+        }
     }
 }

@@ -40,13 +40,19 @@ impl Ipv6 {
 
 pub impl Written for Ipv6 as Ipv6Written {
     type Pattern = u128;
+
     const CODE: u8 = 2;
 
     ghost code = { 2 };
+
     ghost size = { 128 };
+
     ghost number = { λ p. p };
+
     ghost pattern = { λ x. x .number };
+
     ghost reads = { below (2 ^ 128) (λ n h. record { number = n; fits = h }) };
+
     ghost value = { below (2 ^ 128) (λ n h. record { number = n; fits = h }) };
 
     fn kind() -> u8 {
@@ -70,7 +76,9 @@ pub impl Address for Ipv6 as Ipv6Address {
     const WIDTH: u32 = 128;
 
     ghost width = { 128 };
+
     ghost spells = { bits 128 };
+
     ghost string = { λ x. bits 128 (x .number) };
 
     fn width_in_bits() -> u32 {
@@ -82,6 +90,10 @@ pub impl Address for Ipv6 as Ipv6Address {
     }
 
     fn bit(&self, i: u32) -> bool {
-        if i < Self::WIDTH { self.has_bit(127 - i) } else { false }
+        if i < Self::WIDTH {
+            self.has_bit(127 - i)
+        } else {
+            false
+        }
     }
 }

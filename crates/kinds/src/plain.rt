@@ -5,6 +5,7 @@ ghost use mathlib.Core.Path.{_≡_};
 pub trait Plain: Copy {
     // the number that is kept, and how many bits the type has
     ghost number: { Self → ℕ };
+
     ghost span: { ℕ };
 
     law same: { (a b : Self) → number a ≡ number b → a ≡ b };
@@ -19,6 +20,7 @@ pub trait Plain: Copy {
 
 pub impl Plain for u8 as U8Plain {
     ghost number = { λ n. n };
+
     ghost span = { 8 };
 
     fn wide(self) -> u128 {
@@ -32,6 +34,7 @@ pub impl Plain for u8 as U8Plain {
 
 pub impl Plain for u16 as U16Plain {
     ghost number = { λ n. n };
+
     ghost span = { 16 };
 
     fn wide(self) -> u128 {
@@ -45,6 +48,7 @@ pub impl Plain for u16 as U16Plain {
 
 pub impl Plain for u32 as U32Plain {
     ghost number = { λ n. n };
+
     ghost span = { 32 };
 
     fn wide(self) -> u128 {
@@ -58,6 +62,7 @@ pub impl Plain for u32 as U32Plain {
 
 pub impl Plain for u64 as U64Plain {
     ghost number = { λ n. n };
+
     ghost span = { 64 };
 
     fn wide(self) -> u128 {
@@ -71,6 +76,7 @@ pub impl Plain for u64 as U64Plain {
 
 pub impl Plain for u128 as U128Plain {
     ghost number = { λ n. n };
+
     ghost span = { 128 };
 
     fn wide(self) -> u128 {

@@ -38,13 +38,19 @@ impl Rank {
 
 pub impl Written for Rank as RankWritten {
     type Pattern = u32;
+
     const CODE: u8 = 1;
 
     ghost code = { 1 };
+
     ghost size = { 32 };
+
     ghost number = { λ p. p };
+
     ghost pattern = { λ x. x .number };
+
     ghost reads = { below (2 ^ 32) (λ n h. record { number = n; fits = h }) };
+
     ghost value = { below (2 ^ 32) (λ n h. record { number = n; fits = h }) };
 
     fn kind() -> u8 {

@@ -25,7 +25,11 @@ impl Socket {
     pub fn new(hall: u8, row: u8, socket: u8) -> Option<Socket>
         ensures { λ r. ⌜ Cases r ((hall < 16) × (row < 64) × (socket < 64) → ⊥) (λ x. (x .hall ≡ hall) × (x .row ≡ row) × (x .socket ≡ socket)) ⌝ }
     {
-        if hall < 16 && row < 64 && socket < 64 { Some(Socket { hall, row, socket }) } else { None }
+        if hall < 16 && row < 64 && socket < 64 {
+            Some(Socket { hall, row, socket })
+        } else {
+            None
+        }
     }
 
     pub fn hall(&self) -> u8
@@ -50,7 +54,11 @@ impl Socket {
     fn unpack(from: u16) -> Socket
         ensures { λ r. ⌜ r .hall * 4096 + r .row * 64 + r .socket ≡ from ⌝ }
     {
-        Socket { hall: (from >> 12) as u8, row: low_six(from >> 6) as u8, socket: low_six(from) as u8 }
+        Socket {
+            hall: (from >> 12) as u8,
+            row: low_six(from >> 6) as u8,
+            socket: low_six(from) as u8,
+        }
     }
 
     // The number into which the socket is packed.
@@ -78,13 +86,19 @@ fn join(before: u16, field: u16) -> u16
 
 pub impl Written for Socket as SocketWritten {
     type Pattern = u16;
+
     const CODE: u8 = 3;
 
     ghost code = { 3 };
+
     ghost size = { 16 };
+
     ghost number = { λ p. p };
+
     ghost pattern = { λ x. x .hall * 4096 + x .row * 64 + x .socket };
+
     ghost reads = { below (2 ^ 16) (λ n h. record { hall = n / 4096; row = n / 64 % 64; socket = n % 64; halls = hall-fits n h; rows = row-fits n; sockets = socket-fits n }) };
+
     ghost value = { below (2 ^ 16) (λ n h. record { hall = n / 4096; row = n / 64 % 64; socket = n % 64; halls = hall-fits n h; rows = row-fits n; sockets = socket-fits n }) };
 
     fn kind() -> u8 {
@@ -108,7 +122,9 @@ pub impl Address for Socket as SocketAddress {
     const WIDTH: u32 = 16;
 
     ghost width = { 16 };
+
     ghost spells = { bits 16 };
+
     ghost string = { λ x. bits 16 (x .hall * 4096 + x .row * 64 + x .socket) };
 
     fn width_in_bits() -> u32 {
@@ -121,6 +137,10 @@ pub impl Address for Socket as SocketAddress {
 
     fn bit(&self, i: u32) -> bool {
         let all = self.pack();
-        if i < Self::WIDTH { (all >> (15 - i)) % 2 == 1 } else { false }
+        if i < Self::WIDTH {
+            (all >> (15 - i)) % 2 == 1
+        } else {
+            false
+        }
     }
 }

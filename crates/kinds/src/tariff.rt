@@ -25,7 +25,11 @@ impl Tariff {
     pub fn new(class: u8, price: u32) -> Option<Tariff>
         ensures { λ r. ⌜ Cases r ((class < 10) × (price < 2 ^ 28) → ⊥) (λ x. (x .class ≡ class) × (x .price ≡ price)) ⌝ }
     {
-        if class < 10 && price < 0x1000_0000 { Some(Tariff { class, price }) } else { None }
+        if class < 10 && price < 0x1000_0000 {
+            Some(Tariff { class, price })
+        } else {
+            None
+        }
     }
 
     pub fn class(&self) -> u8
@@ -52,7 +56,14 @@ impl Tariff {
         ensures { λ r. ⌜ Cases r (10 * 2 ^ 28 ≤ from) (λ x. x .class * 2 ^ 28 + x .price ≡ from) ⌝ }
     {
         let class = (from >> 28) as u8;
-        if class < 10 { Some(Tariff { class, price: low_28(from) }) } else { None }
+        if class < 10 {
+            Some(Tariff {
+                class,
+                price: low_28(from),
+            })
+        } else {
+            None
+        }
     }
 }
 
@@ -65,13 +76,19 @@ fn low_28(n: u32) -> u32
 
 pub impl Written for Tariff as TariffWritten {
     type Pattern = u32;
+
     const CODE: u8 = 2;
 
     ghost code = { 2 };
+
     ghost size = { 32 };
+
     ghost number = { λ p. p };
+
     ghost pattern = { λ x. x .class * 2 ^ 28 + x .price };
+
     ghost reads = { below (10 * 2 ^ 28) (λ n h. record { class = n / 2 ^ 28; price = n % 2 ^ 28; classes = class-fits n h; prices = price-fits n }) };
+
     ghost value = { below (10 * 2 ^ 28) (λ n h. record { class = n / 2 ^ 28; price = n % 2 ^ 28; classes = class-fits n h; prices = price-fits n }) };
 
     fn kind() -> u8 {

@@ -28,22 +28,33 @@ impl PatternFault {
 
 pub trait Written: Copy {
     type Pattern: Plain;
+
     const CODE: u8;
 
     // the code, the number of bits, a pattern as a number, the pattern of a value, and what a pattern reads as, and the number
     // of one: nothing where it is unlawful
     ghost code: { ℕ };
+
     ghost size: { ℕ };
+
     ghost number: { Self·Pattern → ℕ };
+
     ghost pattern: { Self → Self·Pattern };
+
     ghost reads: { Self·Pattern → Option Self };
+
     ghost value: { ℕ → Option Self };
 
     law low: { code < 16 };
+
     law bytes: { size % 8 ≡ 0 };
+
     law short: { size ≤ 128 };
+
     law held: { size ≤ Pattern·Plain .span };
+
     law plain: { (p : Self·Pattern) → number p ≡ Pattern·Plain .number p };
+
     law fits: { (x : Self) → number (pattern x) < 2 ^ size };
     // a pattern reads as its number does
     law valued: { (p : Self·Pattern) → reads p ≡ value (number p) };

@@ -24,12 +24,12 @@ loop-place-again g c =
 pub returns : need.returns
 returns g c =
     let e : mapped (ruleOf (g .D·Address .string) (g .S·Address .string)) (c .loop-place .best) ≡ linear (better (g .C·Cost .order)) (rules (g .D·Address .spells) (g .S·Address .spells) (g .C·Written .reads) (c .args .places .now)) (g .D·Address .string (c .args .destination .now)) (g .S·Address .string (c .args .source .now)) =
-        sym (at-drop-all (λ (ys : List (Record (g .D·Pattern .Denot) (g .S·Pattern .Denot) (g .C·Pattern .Denot))). scan (better (g .C·Cost .order)) (mapped (ruleOf (g .D·Address .string) (g .S·Address .string)) (c .loop-place .best)) (map (only (better (g .C·Cost .order)) (matches (g .D·Address .string (c .args .destination .now)) (g .S·Address .string (c .args .source .now)))) (rules (g .D·Address .spells) (g .S·Address .spells) (g .C·Written .reads) ys))) (c .args .places .now) (c .loop-place .place-index) (c .loop-place-test .left))
-        ∙ c .loop-place .inv
+    sym (at-drop-all (λ (ys : List (Record (g .D·Pattern .Denot) (g .S·Pattern .Denot) (g .C·Pattern .Denot))). scan (better (g .C·Cost .order)) (mapped (ruleOf (g .D·Address .string) (g .S·Address .string)) (c .loop-place .best)) (map (only (better (g .C·Cost .order)) (matches (g .D·Address .string (c .args .destination .now)) (g .S·Address .string (c .args .source .now)))) (rules (g .D·Address .spells) (g .S·Address .spells) (g .C·Written .reads) ys))) (c .args .places .now) (c .loop-place .place-index) (c .loop-place-test .left))
+    ∙ c .loop-place .inv
     in
-    record
-    { answer = e
-    ; best = λ a.
-        subst (Best-match (g .C·Cost .order) (rules (g .D·Address .spells) (g .S·Address .spells) (g .C·Written .reads) (c .args .places .now)) (g .D·Address .string (c .args .destination .now)) (g .S·Address .string (c .args .source .now))) (sym e)
-        (linear-is-best (g .C·Cost .order) (record { exchange = g .C·Cost·met .exchange; chain = g .C·Cost·met .chain }) (rules (g .D·Address .spells) (g .S·Address .spells) (g .C·Written .reads) (c .args .places .now)) a (g .D·Address .string (c .args .destination .now)) (g .S·Address .string (c .args .source .now)))
+    record {
+      answer = e;
+      best = λ a.
+          subst (Best-match (g .C·Cost .order) (rules (g .D·Address .spells) (g .S·Address .spells) (g .C·Written .reads) (c .args .places .now)) (g .D·Address .string (c .args .destination .now)) (g .S·Address .string (c .args .source .now))) (sym e)
+          (linear-is-best (g .C·Cost .order) (record { exchange = g .C·Cost·met .exchange; chain = g .C·Cost·met .chain }) (rules (g .D·Address .spells) (g .S·Address .spells) (g .C·Written .reads) (c .args .places .now)) a (g .D·Address .string (c .args .destination .now)) (g .S·Address .string (c .args .source .now)));
     }

@@ -16,10 +16,11 @@ pub loop-place-holds : need.loop-place-holds
 loop-place-holds g c = (zero-add (standingOf (g .C·Cost .order) (rules (g .D·Address .spells) (g .S·Address .spells) (g .C·Written .reads) (c .args .places .now)) (c .args .cost .now) (c .args .label)), omega arith)
 
 pub loop-place-again : need.loop-place-again
-loop-place-again g c =
-    ( sym (count-step (g .D·Address .spells) (g .S·Address .spells) (g .C·Written .reads) (λ (r : Rule (g .C .Denot)). byCost (g .C·Cost .order (r .cost) (c .args .cost .now)) (ltb (r .label) (c .args .label))) (c .loop-place .better) (c .ahead-better .result) (c .args .places .now) (c .loop-place .place-index) (c .place-item .result) (c .loop-place-test .taken) (c .place-item .is) (c .ahead-better .ensures .counted))
-      ∙ c .loop-place .inv .0
-    , omega (arith, c .ahead-better .ensures .one, c .loop-place .inv .1) )
+loop-place-again g c = (
+  sym (count-step (g .D·Address .spells) (g .S·Address .spells) (g .C·Written .reads) (λ (r : Rule (g .C .Denot)). byCost (g .C·Cost .order (r .cost) (c .args .cost .now)) (ltb (r .label) (c .args .label))) (c .loop-place .better) (c .ahead-better .result) (c .args .places .now) (c .loop-place .place-index) (c .place-item .result) (c .loop-place-test .taken) (c .place-item .is) (c .ahead-better .ensures .counted))
+      ∙ c .loop-place .inv .0,
+  omega (arith, c .ahead-better .ensures .one, c .loop-place .inv .1),
+)
 
 pub returns : need.returns
 returns g c =

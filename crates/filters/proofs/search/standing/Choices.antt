@@ -8,5 +8,5 @@ use Rattle.filters.proofs.search.standing.Given as given
 abbrev pub Inv-loop-place : given.InvT-loop-place
 Inv-loop-place g l =
     (l .better + standingOf (g .C·Cost .order) (rules (g .D·Address .spells) (g .S·Address .spells) (g .C·Written .reads) (drop (l .place-index) (l .places))) (l .cost) (l .label)
-     ≡ standingOf (g .C·Cost .order) (rules (g .D·Address .spells) (g .S·Address .spells) (g .C·Written .reads) (l .places)) (l .cost) (l .label))
+    ≡ standingOf (g .C·Cost .order) (rules (g .D·Address .spells) (g .S·Address .spells) (g .C·Written .reads) (l .places)) (l .cost) (l .label))
     × (l .better ≤ l .place-index)

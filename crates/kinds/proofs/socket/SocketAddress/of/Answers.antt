@@ -7,7 +7,7 @@ use Rattle.kinds.proofs.socket.SocketAddress.of.Needs as need
 
 pub returns : need.returns
 returns c =
-    record
-    { string = ap (bits 16) (c .unpack .ensures)
-    ; lawful = λ h. below-packed (2 ^ 16) socketOf packed packed-fits socket-again (c .args .from) (c .unpack .result) (c .unpack .ensures)
+    record {
+      string = ap (bits 16) (c .unpack .ensures);
+      lawful = λ h. below-packed (2 ^ 16) socketOf packed packed-fits socket-again (c .args .from) (c .unpack .result) (c .unpack .ensures);
     }
