@@ -42,11 +42,21 @@ pub fn bytes(heap: Global, text: &str) -> Result<Vec<u8>, AllocError> {
 }
 
 // Whether the table, loaded and written again, gives the same bytes and leaves those behind them.
-fn turns<D: Address, S: Address, C: Cost>(heap: Global, table: &[u8], capacity: usize) -> Result<bool, AllocError> {
+fn turns<D: Address, S: Address, C: Cost>(
+    heap: Global,
+    table: &[u8],
+    capacity: usize,
+) -> Result<bool, AllocError> {
     let empty = Record {
         label: 0,
-        destination: Prefix { address: D::Pattern::narrow(0), length: 0 },
-        source: Prefix { address: S::Pattern::narrow(0), length: 0 },
+        destination: Prefix {
+            address: D::Pattern::narrow(0),
+            length: 0,
+        },
+        source: Prefix {
+            address: S::Pattern::narrow(0),
+            length: 0,
+        },
         cost: C::Pattern::narrow(0),
         directive: Directive::Block,
     };
@@ -64,7 +74,11 @@ fn turns<D: Address, S: Address, C: Cost>(heap: Global, table: &[u8], capacity: 
 }
 
 // What loading a table answers.
-fn outcome<D: Address, S: Address, C: Cost>(heap: Global, table: &[u8], capacity: usize) -> Result<String, AllocError> {
+fn outcome<D: Address, S: Address, C: Cost>(
+    heap: Global,
+    table: &[u8],
+    capacity: usize,
+) -> Result<String, AllocError> {
     match check_table::<D, S, C>(table, capacity) {
         Ok(count) => {
             if turns::<D, S, C>(heap, table, capacity)? {

@@ -31,11 +31,12 @@ tested-ok false true true false n m h = let e : n ≡ m = cc in (refl, refl, ref
 pub head-ok : (D S C : Kind) (capacity : ℕ) (bytes : List ℕ) (n : ℕ) → Ok n ≡ headVerdict D S C capacity bytes → (sameKinds D S C (headFields bytes) ≡ true) × (length bytes ≡ tableSize D S C n) × (n ≤ capacity) × (n ≡ filterCount bytes)
 head-ok D S C capacity bytes n h =
     let t = tested-ok (ltb (length bytes) 4) (sameKinds D S C (headFields bytes)) (eqb (length bytes) (tableSize D S C (filterCount bytes))) (ltb capacity (filterCount bytes)) n (filterCount bytes) h in
-    let e = t .4 in
-    ( t .1
-    , eqb-true _ _ (t .2) ∙ ap (tableSize D S C) (sym e)
-    , omega (arith, ltb-false capacity (filterCount bytes) (t .3))
-    , e )
+    let e = t .4 in (
+      t .1,
+      eqb-true _ _ (t .2) ∙ ap (tableSize D S C) (sym e),
+      omega (arith, ltb-false capacity (filterCount bytes) (t .3)),
+      e,
+    )
 
 pub behind-ok : (D S C : Kind) (pass : ℕ → Bool) (capacity : ℕ) (bytes : List ℕ) (n : ℕ) → Ok n ≡ headVerdict D S C capacity bytes → tableVerdict D S C pass capacity bytes ≡ entriesVerdict D S C pass [] (decodeRecords D S C n (drop 4 bytes))
 behind-ok D S C pass capacity bytes n h =

@@ -56,7 +56,7 @@ module _ (D S C : Kind) where
     kinds-back rs h =
         ap (sameKinds D S C) (heads rs h)
         ∙ and-from (eqb (D .code) (D .code)) (eqb (S .code) (S .code) && eqb (C .code) (C .code)) (eq-eqb (D .code) (D .code) refl)
-          (and-from (eqb (S .code) (S .code)) (eqb (C .code) (C .code)) (eq-eqb (S .code) (S .code) refl) (eq-eqb (C .code) (C .code) refl))
+        (and-from (eqb (S .code) (S .code)) (eqb (C .code) (C .code)) (eq-eqb (S .code) (S .code) refl) (eq-eqb (C .code) (C .code) refl))
 
     head-accepts : (rs : List Entry) (capacity : ℕ) → length rs ≤ 4095 → length rs ≤ capacity → headVerdict D S C capacity (encode D S C rs) ≡ Ok (length rs)
     head-accepts rs capacity h l =
@@ -76,12 +76,13 @@ module _ (D S C : Kind) where
     -- sound entries that are lawful and have distinct labels, with room for them
     pub table-back : (pass : ℕ → Bool) (capacity : ℕ) (rs : List Entry) → length rs ≤ 4095 → length rs ≤ capacity → Each (Sound D S C) rs → Each (λ r. entryVerdict D S C pass false r ≡ Ok tt) rs → distinct (labels rs) ≡ true → (tableVerdict D S C pass capacity (encode D S C rs) ≡ Ok (length rs)) × (decode D S C (encode D S C rs) ≡ rs)
     table-back pass capacity rs h l s v d =
-        let e = decode-back rs h s in
-        ( ap (λ (z : Result ℕ TableFault). behindHead z (entriesVerdict D S C pass [] (decode D S C (encode D S C rs)))) (head-accepts rs capacity h l)
-          ∙ ap (entriesVerdict D S C pass []) e
-          ∙ accept D S C pass [] rs v (unseen-none rs) d
-          ∙ ap Ok (omega arith)
-        , e )
+        let e = decode-back rs h s in (
+          ap (λ (z : Result ℕ TableFault). behindHead z (entriesVerdict D S C pass [] (decode D S C (encode D S C rs)))) (head-accepts rs capacity h l)
+              ∙ ap (entriesVerdict D S C pass []) e
+              ∙ accept D S C pass [] rs v (unseen-none rs) d
+              ∙ ap Ok (omega arith),
+          e,
+        )
 
   -- an accepted table was accepted by head and records
   behind-parts : (v : Result ℕ TableFault) (w : Result ℕ LoadFault) (n : ℕ) → behindHead v w ≡ Ok n → ((k : ℕ) × (Ok k ≡ v)) × (w ≡ Ok n)
@@ -117,16 +118,15 @@ each-map f P Q R step [] q r = tt
 each-map f P Q R step (x ∷ xs) q r = (step x (q .0) (r .0), each-map f P Q R step xs (q .1) (r .1))
 
 module _ {D S C P Q R : Type 0} (KD KS KC : Kind) (pass : ℕ → Bool) (dst : D → Str) (src : S → Str) (wd ws : ℕ) (pd : D → P) (ps : S → Q) (pc : C → R) (nd : P → ℕ) (ns : Q → ℕ) (nc : R → ℕ)
-  (ed : wd ≡ KD .size) (es : ws ≡ KS .size) (xd : (x : D) → dst x ≡ bits (KD .size) (nd (pd x))) (xs : (x : S) → src x ≡ bits (KS .size) (ns (ps x)))
-  (fd : (x : D) → nd (pd x) < 256 ^ (KD .size / 8)) (fs : (x : S) → ns (ps x) < 256 ^ (KS .size / 8)) (fc : (x : C) → nc (pc x) < 256 ^ (KC .size / 8))
-  (sd : KD .size ≤ 128) (ss : KS .size ≤ 128) (lc : (x : C) → pass (nc (pc x)) ≡ true) where
-
+    (ed : wd ≡ KD .size) (es : ws ≡ KS .size) (xd : (x : D) → dst x ≡ bits (KD .size) (nd (pd x))) (xs : (x : S) → src x ≡ bits (KS .size) (ns (ps x)))
+    (fd : (x : D) → nd (pd x) < 256 ^ (KD .size / 8)) (fs : (x : S) → ns (ps x) < 256 ^ (KS .size / 8)) (fc : (x : C) → nc (pc x) < 256 ^ (KC .size / 8))
+    (sd : KD .size ≤ 128) (ss : KS .size ≤ 128) (lc : (x : C) → pass (nc (pc x)) ≡ true) where
   -- a record is refused as its filter is
   entry-verdict : (used : Bool) (f : Filter D S C) → entryVerdict KD KS KC pass used (filed pd ps pc nd ns nc f) ≡ layered (filterVerdict dst src wd ws used f)
   entry-verdict used f =
       ap (λ (t : Bool). cond (eqb (f .label) 0) (Err (OfFilter ZeroLabel)) (cond t (layered (thenUsed used (bodyVerdict (bits (KD .size)) (bits (KS .size)) (KD .size) (KS .size) (respelt nd (respelt pd (f .destination))) (respelt ns (respelt ps (f .source))) (f .directive)))) (Err (Pattern Unlawful)))) (lc (f .cost))
       ∙ ap (λ (z : Result (Unit {0}) FilterFault). cond (eqb (f .label) 0) (Err (OfFilter ZeroLabel)) (layered (thenUsed used z)))
-        (sym (body-same dst src (bits (KD .size)) (bits (KS .size)) wd ws (KD .size) (KS .size) (f .destination) (f .source) (respelt nd (respelt pd (f .destination))) (respelt ns (respelt ps (f .source))) (f .directive) ed es refl refl (xd (f .destination .address)) (xs (f .source .address))))
+      (sym (body-same dst src (bits (KD .size)) (bits (KS .size)) wd ws (KD .size) (KS .size) (f .destination) (f .source) (respelt nd (respelt pd (f .destination))) (respelt ns (respelt ps (f .source))) (f .directive) ed es refl refl (xd (f .destination .address)) (xs (f .source .address))))
       ∙ sym (layered-cond (eqb (f .label) 0) (thenUsed used (bodyVerdict dst src wd ws (f .destination) (f .source) (f .directive))))
 
   entry-ok : (f : Filter D S C) → filterVerdict dst src wd ws false f ≡ Ok tt → entryVerdict KD KS KC pass false (filed pd ps pc nd ns nc f) ≡ Ok tt
@@ -136,14 +136,14 @@ module _ {D S C P Q R : Type 0} (KD KS KC : Kind) (pass : ℕ → Bool) (dst : D
   entry-sound f l h =
       let p = entry-passed KD KS KC pass false (filed pd ps pc nd ns nc f) (entry-ok f h) in
       let q = or-parts (ltb (KD .size) (f .destination .length)) (ltb (KS .size) (f .source .length)) (p .0) in
-      record
-      { label-fits = l
-      ; destination-length = omega (arith, ltb-false (KD .size) (f .destination .length) (q .0))
-      ; destination-address = fd (f .destination .address)
-      ; source-length = omega (arith, ltb-false (KS .size) (f .source .length) (q .1))
-      ; source-address = fs (f .source .address)
-      ; cost-fits = fc (f .cost)
-      ; directive-lawful = p .1
+      record {
+        label-fits = l;
+        destination-length = omega (arith, ltb-false (KD .size) (f .destination .length) (q .0));
+        destination-address = fd (f .destination .address);
+        source-length = omega (arith, ltb-false (KS .size) (f .source .length) (q .1));
+        source-address = fs (f .source .address);
+        cost-fits = fc (f .cost);
+        directive-lawful = p .1;
       }
 
   labels-filed : (gs : List (Filter D S C)) → labels (map (filed pd ps pc nd ns nc) gs) ≡ map (λ (f : Filter D S C). f .label) gs
@@ -155,7 +155,7 @@ module _ {D S C P Q R : Type 0} (KD KS KC : Kind) (pass : ℕ → Bool) (dst : D
   read-back cd cs cc′ capacity gs h =
       let n : length (map (filed pd ps pc nd ns nc) gs) ≡ length gs = length-map gs (filed pd ps pc nd ns nc) in
       let t = table-back KD KS KC cd cs cc′ pass capacity (map (filed pd ps pc nd ns nc) gs) (omega (arith, h .counted)) (omega (arith, h .room))
-              (each-map (filed pd ps pc nd ns nc) (Sound KD KS KC) (λ f. f .label < 65536) (λ f. filterVerdict dst src wd ws false f ≡ Ok tt) entry-sound gs (h .small) (h .lawful))
-              (each-map (filed pd ps pc nd ns nc) (λ r. entryVerdict KD KS KC pass false r ≡ Ok tt) (λ f. f .label < 65536) (λ f. filterVerdict dst src wd ws false f ≡ Ok tt) (λ f l v. entry-ok f v) gs (h .small) (h .lawful))
-              (ap distinct (labels-filed gs) ∙ h .apart) in
+      (each-map (filed pd ps pc nd ns nc) (Sound KD KS KC) (λ f. f .label < 65536) (λ f. filterVerdict dst src wd ws false f ≡ Ok tt) entry-sound gs (h .small) (h .lawful))
+      (each-map (filed pd ps pc nd ns nc) (λ r. entryVerdict KD KS KC pass false r ≡ Ok tt) (λ f. f .label < 65536) (λ f. filterVerdict dst src wd ws false f ≡ Ok tt) (λ f l v. entry-ok f v) gs (h .small) (h .lawful))
+      (ap distinct (labels-filed gs) ∙ h .apart) in
       (t .0 ∙ ap Ok n, t .1)

@@ -22,16 +22,17 @@ use Rattle.tables.proofs.Tables.{records-push, record-start}
 module _ (D S C : Kind) where
   -- one place more is loaded
   pub load-more : {R : Type 0} (entry : R → Entry) (bytes : List ℕ) (size i : ℕ) (old ps : List R) (r : R) → i < length ps → size ≡ recordSize D S C → map entry (take i ps) ≡ decodeRecords D S C i (drop 4 bytes) → drop i ps ≡ drop i old → entry r ≡ decodeRecord D S C (drop (4 + i * size) bytes) → (map entry (take (i + 1) (set ps i r)) ≡ decodeRecords D S C (i + 1) (drop 4 bytes)) × (drop (i + 1) (set ps i r) ≡ drop (i + 1) old)
-  load-more entry bytes size i old ps r h e l k f =
-      ( ap (map entry) (take-more-set ps i r h)
+  load-more entry bytes size i old ps r h e l k f = (
+    ap (map entry) (take-more-set ps i r h)
         ∙ map-push entry (take i ps) r
         ∙ ap (λ (z : List Entry). z ++ entry r ∷ []) l
         ∙ ap (λ (z : Entry). decodeRecords D S C i (drop 4 bytes) ++ z ∷ []) (f ∙ ap (decodeRecord D S C) (record-start D S C bytes i size e))
-        ∙ sym (records-push D S C i (drop 4 bytes))
-      , drop-set-lt (i + 1) ps i r (omega arith)
+        ∙ sym (records-push D S C i (drop 4 bytes)),
+    drop-set-lt (i + 1) ps i r (omega arith)
         ∙ sym (drop-drop 1 i ps)
         ∙ ap (drop 1) k
-        ∙ drop-drop 1 i old )
+        ∙ drop-drop 1 i old,
+  )
 
   -- a record has its size
   pub length-record : (r : Entry) → length (encodeRecord D S C r) ≡ recordSize D S C

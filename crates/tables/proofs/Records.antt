@@ -35,22 +35,23 @@ entry-is D S C dst src cost bytes at so co di r w o1 o2 o3 e0 e1 e2 e3 e4 e5 e6 
     let f5 = e5 ∙ ap (λ (z : List ℕ). word (take (C .size / 8) z)) (sym x5) in
     let f6 = e7 ∙ ap directiveOf (e6 ∙ ap (λ (z : List ℕ). word (take 4 z)) (sym x6)) in
     λ i.
-      record
-      { label = e0 i
-      ; destination = record { address = f2 i; length = f1 i }
-      ; source = record { address = f4 i; length = f3 i }
-      ; cost = f5 i
-      ; directive = f6 i
-      }
+    record {
+      label = e0 i;
+      destination = record { address = f2 i; length = f1 i };
+      source = record { address = f4 i; length = f3 i };
+      cost = f5 i;
+      directive = f6 i;
+    }
 
 -- one part more is written behind the others
 pub part-more : (d x y : List ℕ) (at from n k v : ℕ) (s : List ℕ) → at ≤ length d → length s ≡ n → at + n ≡ from → x ≡ paste d at s n → y ≡ paste x from (spelt k v) k → (y ≡ paste d at (s ++ spelt k v) (n + k)) × (length (s ++ spelt k v) ≡ n + k)
-part-more d x y at from n k v s h l o e f =
-    ( f
+part-more d x y at from n k v s h l o e f = (
+  f
       ∙ ap (λ (z : List ℕ). paste z from (spelt k v) k) e
       ∙ ap (λ (j : ℕ). paste (paste d at s n) j (spelt k v) k) (sym o)
-      ∙ paste-paste d at s (spelt k v) n k (sym l) (sym (length-spelt k v)) h
-    , length-append s (spelt k v) ∙ omega (arith, length-spelt k v) )
+      ∙ paste-paste d at s (spelt k v) n k (sym l) (sym (length-spelt k v)) h,
+  length-append s (spelt k v) ∙ omega (arith, length-spelt k v),
+)
 
 -- a record whose parts were written one behind the other
 pub put-is : (D S C : Kind) (r : Entry) (d b1 b2 b3 b4 b5 b6 b7 : List ℕ) (at so co di w : ℕ) → at ≤ length d → at + 3 + D .size / 8 ≡ so → so + 1 + S .size / 8 ≡ co → co + C .size / 8 ≡ di → w ≡ directiveNumber (r .directive) → b1 ≡ paste d at (spelt 2 (r .label)) 2 → b2 ≡ paste b1 (at + 2) (spelt 1 (r .destination .length)) 1 → b3 ≡ paste b2 (at + 3) (spelt (D .size / 8) (r .destination .address)) (D .size / 8) → b4 ≡ paste b3 so (spelt 1 (r .source .length)) 1 → b5 ≡ paste b4 (so + 1) (spelt (S .size / 8) (r .source .address)) (S .size / 8) → b6 ≡ paste b5 co (spelt (C .size / 8) (r .cost)) (C .size / 8) → b7 ≡ paste b6 di (spelt 4 w) 4 → b7 ≡ paste d at (encodeRecord D S C r) (recordSize D S C)

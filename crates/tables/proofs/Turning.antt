@@ -34,12 +34,13 @@ wrote-size D S C n room m h = wrote (ltb 4095 n || ltb room (tableSize D S C n))
 -- a table that was loaded is written with the same bytes
 pub rewritten : (D S C : Kind) (pass : ℕ → Bool) {R : Type 0} (entry : R → Entry) (capacity n m room : ℕ) (bytes before after : List ℕ) (rs : List R) → Under 256 bytes → tableVerdict D S C pass capacity bytes ≡ Ok n → map entry rs ≡ decode D S C bytes → Ok m ≡ writeVerdict D S C (length rs) room → after ≡ encode D S C (map entry rs) ++ drop m before → (m ≡ length bytes) × (after ≡ bytes ++ drop m before)
 rewritten D S C pass entry capacity n m room bytes before after rs u h l w k =
-    let e : encode D S C (map entry rs) ≡ bytes = ap (encode D S C) l ∙ written-back D S C pass capacity n bytes u h in
-    ( wrote-size D S C (length rs) room m w
-      ∙ ap (tableSize D S C) (sym (length-map rs entry))
-      ∙ sym (length-table D S C (map entry rs))
-      ∙ ap length e
-    , k ∙ ap (λ (z : List ℕ). z ++ drop m before) e )
+    let e : encode D S C (map entry rs) ≡ bytes = ap (encode D S C) l ∙ written-back D S C pass capacity n bytes u h in (
+      wrote-size D S C (length rs) room m w
+          ∙ ap (tableSize D S C) (sym (length-map rs entry))
+          ∙ sym (length-table D S C (map entry rs))
+          ∙ ap length e,
+      k ∙ ap (λ (z : List ℕ). z ++ drop m before) e,
+    )
 
 -- an accepted load goes on to the writing
 pub turn-on : (v : Result ℕ LoadFault) (write : ℕ → Result ℕ WriteFault) (n : ℕ) (a : Result ℕ WriteFault) → Ok n ≡ v → a ≡ write n → writeTurn a ≡ loadTurn v write

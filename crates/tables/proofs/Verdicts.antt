@@ -25,9 +25,9 @@ use Rattle.tables.specs.Verdict.{layered, entryVerdict}
 pub body-same : {D S E T : Type 0} (dst : D → Str) (src : S → Str) (dst′ : E → Str) (src′ : T → Str) (wd ws vd vs : ℕ) (p : Prefix D) (q : Prefix S) (p′ : Prefix E) (q′ : Prefix T) (a : Directive) → wd ≡ vd → ws ≡ vs → p .length ≡ p′ .length → q .length ≡ q′ .length → dst (p .address) ≡ dst′ (p′ .address) → src (q .address) ≡ src′ (q′ .address) → bodyVerdict dst src wd ws p q a ≡ bodyVerdict dst′ src′ vd vs p′ q′ a
 body-same dst src dst′ src′ wd ws vd vs p q p′ q′ a ed es el em ex ey =
     λ i.
-      cond (ltb (ed i) (el i) || ltb (es i) (em i)) (Err LongPrefix)
-      (cond (stray (el i) (ex i) || stray (em i) (ey i)) (Err StrayBit)
-      (cond (lawful a) (Ok tt) (Err BadDirective)))
+    cond (ltb (ed i) (el i) || ltb (es i) (em i)) (Err LongPrefix)
+    (cond (stray (el i) (ex i) || stray (em i) (ey i)) (Err StrayBit)
+    (cond (lawful a) (Ok tt) (Err BadDirective)))
 
 -- what was read was lawful
 pub some-since-ok : {X E : Type 0} (o : Option X) (x : X) (e : E) → Ok x ≡ okOr o e → isSome o ≡ true

@@ -43,12 +43,13 @@ pub read-more : (bs : List ℕ) (at i n : ℕ) → at + i < length bs → i < 16
 read-more bs at i n h l e s k =
     let m = move-in n (getD bs (at + i) 0) i s l k in
     let lt = move-in-lt n (getD bs (at + i) 0) i s k in
-    let inside : i < length (drop at bs) = omega (arith, length-drop at bs) in
-    ( m
-      ∙ ap (λ (z : ℕ). z * 256 + getD bs (at + i) 0) e
-      ∙ ap (λ (z : ℕ). word (take i (drop at bs)) * 256 + z) (sym (getD-drop at bs i 0))
-      ∙ sym (word-more (drop at bs) i inside)
-    , subst (λ (z : ℕ). z < 256 ^ (i + 1)) (sym m) lt )
+    let inside : i < length (drop at bs) = omega (arith, length-drop at bs) in (
+      m
+          ∙ ap (λ (z : ℕ). z * 256 + getD bs (at + i) 0) e
+          ∙ ap (λ (z : ℕ). word (take i (drop at bs)) * 256 + z) (sym (getD-drop at bs i 0))
+          ∙ sym (word-more (drop at bs) i inside),
+      subst (λ (z : ℕ). z < 256 ^ (i + 1)) (sym m) lt,
+    )
 
 pub length-spelt : (k n : ℕ) → length (spelt k n) ≡ k
 unfolding spelt

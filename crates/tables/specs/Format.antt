@@ -24,12 +24,12 @@ Entry = Record ℕ ℕ ℕ
 -- the entry of a place, given the numbers of its patterns
 abbrev pub entryOf : {D S C : Type 0} → (D → ℕ) → (S → ℕ) → (C → ℕ) → Record D S C → Entry
 entryOf dst src cost r =
-    record
-    { label = r .label
-    ; destination = respelt dst (r .destination)
-    ; source = respelt src (r .source)
-    ; cost = cost (r .cost)
-    ; directive = r .directive
+    record {
+      label = r .label;
+      destination = respelt dst (r .destination);
+      source = respelt src (r .source);
+      cost = cost (r .cost);
+      directive = r .directive;
     }
 
 -- ---- the head
@@ -69,12 +69,12 @@ module _ (D S C : Kind) where
   -- the entry of such numbers
   abbrev pub entryBy : List ℕ → Entry
   entryBy ns =
-      record
-      { label = nth ns 0
-      ; destination = record { address = nth ns 2; length = nth ns 1 }
-      ; source = record { address = nth ns 4; length = nth ns 3 }
-      ; cost = nth ns 5
-      ; directive = directiveOf (nth ns 6)
+      record {
+        label = nth ns 0;
+        destination = record { address = nth ns 2; length = nth ns 1 };
+        source = record { address = nth ns 4; length = nth ns 3 };
+        cost = nth ns 5;
+        directive = directiveOf (nth ns 6);
       }
 
   abbrev pub encodeRecord : Entry → List ℕ

@@ -68,10 +68,10 @@ module _ (D S C : Kind) where
   headVerdict capacity bytes =
       cond (ltb (length bytes) 4) (Err Short)
       (cond (sameKinds (headFields bytes))
-       (cond (eqb (length bytes) (tableSize D S C (filterCount bytes)))
-        (cond (ltb capacity (filterCount bytes)) (Err Full) (Ok (filterCount bytes)))
-        (Err Length))
-       (Err OtherKind))
+      (cond (eqb (length bytes) (tableSize D S C (filterCount bytes)))
+      (cond (ltb capacity (filterCount bytes)) (Err Full) (Ok (filterCount bytes)))
+      (Err Length))
+      (Err OtherKind))
 
 -- ---- the records
 module _ (D S C : Kind) (lawful : ℕ → Bool) where
@@ -80,8 +80,8 @@ module _ (D S C : Kind) (lawful : ℕ → Bool) where
   entryVerdict used r =
       cond (eqb (r .label) 0) (Err (Filter ZeroLabel))
       (cond (lawful (r .cost))
-       (layered (thenUsed used (bodyVerdict (bits (D .size)) (bits (S .size)) (D .size) (S .size) (r .destination) (r .source) (r .directive))))
-       (Err (Pattern Unlawful)))
+      (layered (thenUsed used (bodyVerdict (bits (D .size)) (bits (S .size)) (D .size) (S .size) (r .destination) (r .source) (r .directive))))
+      (Err (Pattern Unlawful)))
 
   -- the first refusal of records behind those with the labels `seen`, or how many there are in all
   abbrev pub entriesVerdict : List ℕ → List Entry → Result ℕ LoadFault

@@ -33,16 +33,29 @@ use kinds::cost::Cost;
 use kinds::written::Written;
 
 // The first refusal of two prefixes, whose addresses are patterns, and of a directive.
-fn check_prefixes<D: Address, S: Address>(destination: &Prefix<D::Pattern>, source: &Prefix<S::Pattern>, directive: Directive) -> Result<(), FilterFault>
+fn check_prefixes<D: Address, S: Address>(
+    destination: &Prefix<D::Pattern>,
+    source: &Prefix<S::Pattern>,
+    directive: Directive,
+) -> Result<(), FilterFault>
     ensures { λ r. ⌜ r ≡ bodyVerdict (bits (D·Written .size)) (bits (S·Written .size)) (D·Written .size) (S·Written .size) (respelt (D·Written .number) (now (destination .entry))) (respelt (S·Written .number) (now (source .entry))) directive ⌝ }
 {
-    let first = Prefix { address: D::of(destination.address), length: destination.length };
-    let second = Prefix { address: S::of(source.address), length: source.length };
+    let first = Prefix {
+        address: D::of(destination.address),
+        length: destination.length,
+    };
+    let second = Prefix {
+        address: S::of(source.address),
+        length: source.length,
+    };
     check_body(&first, &second, directive)
 }
 
 // The first refusal of a record; `used` says whether its label is in use already.
-fn check_record<D: Address, S: Address, C: Cost>(place: &Record<D::Pattern, S::Pattern, C::Pattern>, used: bool) -> Result<(), RecordFault>
+fn check_record<D: Address, S: Address, C: Cost>(
+    place: &Record<D::Pattern, S::Pattern, C::Pattern>,
+    used: bool,
+) -> Result<(), RecordFault>
     ensures answer { λ r. ⌜ ((lawful : ℕ → Bool) → Tells (C·Written .number) (C·Written .reads) lawful → r ≡ entryVerdict (kind (D·Written .code) (D·Written .size)) (kind (S·Written .code) (S·Written .size)) (kind (C·Written .code) (C·Written .size)) lawful used (entryOf (D·Written .number) (S·Written .number) (C·Written .number) (now (place .entry)))) ⌝ }
     ensures passed { λ r. ⌜ Cases r (λ _. entryVerdict (kind (D·Written .code) (D·Written .size)) (kind (S·Written .code) (S·Written .size)) (kind (C·Written .code) (C·Written .size)) (λ _. true) used (entryOf (D·Written .number) (S·Written .number) (C·Written .number) (now (place .entry))) ≡ Ok tt) (λ _. Unit {0}) ⌝ }
 {
@@ -81,12 +94,18 @@ fn check_at<D: Address, S: Address, C: Cost>(bytes: &[u8], i: usize) -> Result<(
     let used = is_label_before::<D, S, C>(bytes, i, place.label);
     match check_record::<D, S, C>(&place, used) {
         Ok(()) => Ok(()),
-        Err(fault) => Err(InRecord { record: i as u16 + 1, fault }),
+        Err(fault) => Err(InRecord {
+            record: i as u16 + 1,
+            fault,
+        }),
     }
 }
 
 // The first refusal of a table's records, or how many there are.
-fn check_records<D: Address, S: Address, C: Cost>(bytes: &[u8], count: usize) -> Result<usize, LoadFault>
+fn check_records<D: Address, S: Address, C: Cost>(
+    bytes: &[u8],
+    count: usize,
+) -> Result<usize, LoadFault>
     requires { ⌜ tableSize (kind (D·Written .code) (D·Written .size)) (kind (S·Written .code) (S·Written .size)) (kind (C·Written .code) (C·Written .size)) count ≤ length (now bytes) ⌝ ∗ ⌜ count ≤ 4095 ⌝ }
     ensures answer { λ r. ⌜ ((lawful : ℕ → Bool) → Tells (C·Written .number) (C·Written .reads) lawful → r ≡ entriesVerdict (kind (D·Written .code) (D·Written .size)) (kind (S·Written .code) (S·Written .size)) (kind (C·Written .code) (C·Written .size)) lawful [] (decodeRecords (kind (D·Written .code) (D·Written .size)) (kind (S·Written .code) (S·Written .size)) (kind (C·Written .code) (C·Written .size)) count (drop 4 (now (bytes .entry))))) ⌝ }
     ensures passed { λ r. ⌜ Cases r (λ n. (n ≡ count) × (entriesVerdict (kind (D·Written .code) (D·Written .size)) (kind (S·Written .code) (S·Written .size)) (kind (C·Written .code) (C·Written .size)) (λ _. true) [] (decodeRecords (kind (D·Written .code) (D·Written .size)) (kind (S·Written .code) (S·Written .size)) (kind (C·Written .code) (C·Written .size)) count (drop 4 (now (bytes .entry)))) ≡ Ok count)) (λ _. Unit {0}) ⌝ }
@@ -98,14 +117,21 @@ fn check_records<D: Address, S: Address, C: Cost>(bytes: &[u8], count: usize) ->
 }
 
 // The refusal of a table by its head and its length, or how many filters it has.
-fn check_head<D: Address, S: Address, C: Cost>(bytes: &[u8], capacity: usize) -> Result<usize, TableFault>
+fn check_head<D: Address, S: Address, C: Cost>(
+    bytes: &[u8],
+    capacity: usize,
+) -> Result<usize, TableFault>
     ensures { λ r. ⌜ r ≡ headVerdict (kind (D·Written .code) (D·Written .size)) (kind (S·Written .code) (S·Written .size)) (kind (C·Written .code) (C·Written .size)) capacity (now (bytes .entry)) ⌝ }
 {
     if bytes.len() < 4 {
         return Err(TableFault::Short);
     }
     let head = Head::unpack(number_at(bytes, 0, 4) as u32);
-    if head.edition != 1 || head.destination != D::kind() || head.source != S::kind() || head.cost != C::kind() {
+    if head.edition != 1
+        || head.destination != D::kind()
+        || head.source != S::kind()
+        || head.cost != C::kind()
+    {
         return Err(TableFault::Kind);
     }
     let count = head.count as usize;
@@ -121,7 +147,10 @@ fn check_head<D: Address, S: Address, C: Cost>(bytes: &[u8], capacity: usize) ->
 // The first refusal of a table where `capacity` filters have room, or how many filters it has: the head first, then
 // record by record. `answer` is exact, given a test that tells lawful costs by their numbers; `accepted` says, with no such
 // test, that head, length and every check but that of the costs are passed.
-pub fn check_table<D: Address, S: Address, C: Cost>(bytes: &[u8], capacity: usize) -> Result<usize, LoadFault>
+pub fn check_table<D: Address, S: Address, C: Cost>(
+    bytes: &[u8],
+    capacity: usize,
+) -> Result<usize, LoadFault>
     ensures answer { λ r. ⌜ ((lawful : ℕ → Bool) → Tells (C·Written .number) (C·Written .reads) lawful → r ≡ tableVerdict (kind (D·Written .code) (D·Written .size)) (kind (S·Written .code) (S·Written .size)) (kind (C·Written .code) (C·Written .size)) lawful capacity (now (bytes .entry))) ⌝ }
     ensures accepted { λ r. ⌜ Cases r (λ n. (n ≡ filterCount (now (bytes .entry))) × (length (now (bytes .entry)) ≡ tableSize (kind (D·Written .code) (D·Written .size)) (kind (S·Written .code) (S·Written .size)) (kind (C·Written .code) (C·Written .size)) n) × (n ≤ capacity) × (tableVerdict (kind (D·Written .code) (D·Written .size)) (kind (S·Written .code) (S·Written .size)) (kind (C·Written .code) (C·Written .size)) (λ _. true) capacity (now (bytes .entry)) ≡ Ok n)) (λ _. Unit {0}) ⌝ }
 {

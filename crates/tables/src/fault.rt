@@ -105,7 +105,10 @@ pub impl From<InRecord> for LoadFault as LoadFaultFromRecord {
     ghost converts = { λ e r. r ≡ inRecord e };
 
     fn from(place: InRecord) -> LoadFault {
-        LoadFault { record: place.record, fault: TableFault::from(place.fault) }
+        LoadFault {
+            record: place.record,
+            fault: TableFault::from(place.fault),
+        }
     }
 }
 

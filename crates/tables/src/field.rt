@@ -64,6 +64,8 @@ pub(crate) fn pack_directive(directive: Directive) -> u32
     match directive {
         Directive::Block => 0,
         Directive::Line(line) => 1 << 30 | (line as u32 & 0x3f) << 24,
-        Directive::Reserve { line, rate } => 2 << 30 | (line as u32 & 0x3f) << 24 | rate & 0xff_ffff,
+        Directive::Reserve { line, rate } => 2 << 30
+            | (line as u32 & 0x3f) << 24
+            | rate & 0xff_ffff,
     }
 }

@@ -26,7 +26,11 @@ fn put_place<R: Copy>(places: &mut [R], at: usize, place: R)
 }
 
 // Puts the first `count` records of a table into the first places.
-fn read_records<D: Address, S: Address, C: Cost>(bytes: &[u8], count: usize, places: &mut [Record<D::Pattern, S::Pattern, C::Pattern>])
+fn read_records<D: Address, S: Address, C: Cost>(
+    bytes: &[u8],
+    count: usize,
+    places: &mut [Record<D::Pattern, S::Pattern, C::Pattern>],
+)
     requires { ⌜ tableSize (kind (D·Written .code) (D·Written .size)) (kind (S·Written .code) (S·Written .size)) (kind (C·Written .code) (C·Written .size)) count ≤ length (now bytes) ⌝ ∗ ⌜ count ≤ length (now places) ⌝ ∗ ⌜ count ≤ 4095 ⌝ }
     ensures read { λ _. ⌜ map (entryOf (D·Written .number) (S·Written .number) (C·Written .number)) (take count (now (places .exit))) ≡ decodeRecords (kind (D·Written .code) (D·Written .size)) (kind (S·Written .code) (S·Written .size)) (kind (C·Written .code) (C·Written .size)) count (drop 4 (now (bytes .entry))) ⌝ }
     ensures kept { λ _. ⌜ drop count (now (places .exit)) ≡ drop count (now (places .entry)) ⌝ }
@@ -39,7 +43,10 @@ fn read_records<D: Address, S: Address, C: Cost>(bytes: &[u8], count: usize, pla
 
 // Loads a table into places: accepted, its filters are in the first places, in their order, and those behind stay, and the
 // answer is how many they are; refused, all places stay.
-pub fn load_table<D: Address, S: Address, C: Cost>(bytes: &[u8], places: &mut [Record<D::Pattern, S::Pattern, C::Pattern>]) -> Result<usize, LoadFault>
+pub fn load_table<D: Address, S: Address, C: Cost>(
+    bytes: &[u8],
+    places: &mut [Record<D::Pattern, S::Pattern, C::Pattern>],
+) -> Result<usize, LoadFault>
     ensures answer { λ r. ⌜ ((lawful : ℕ → Bool) → Tells (C·Written .number) (C·Written .reads) lawful → r ≡ tableVerdict (kind (D·Written .code) (D·Written .size)) (kind (S·Written .code) (S·Written .size)) (kind (C·Written .code) (C·Written .size)) lawful (length (now (places .entry))) (now (bytes .entry))) ⌝ }
     ensures accepted { λ r. ⌜ Cases r (λ n. tableVerdict (kind (D·Written .code) (D·Written .size)) (kind (S·Written .code) (S·Written .size)) (kind (C·Written .code) (C·Written .size)) (λ _. true) (length (now (places .entry))) (now (bytes .entry)) ≡ Ok n) (λ _. Unit {0}) ⌝ }
     ensures labels { λ r. ⌜ Cases r (λ _. Labelled (decode (kind (D·Written .code) (D·Written .size)) (kind (S·Written .code) (S·Written .size)) (kind (C·Written .code) (C·Written .size)) (now (bytes .entry)))) (λ _. Unit {0}) ⌝ }

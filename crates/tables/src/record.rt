@@ -33,7 +33,10 @@ pub(crate) fn record_size<D: Address, S: Address, C: Cost>() -> usize
 }
 
 // The record that begins at `at`.
-pub(crate) fn record_at<D: Address, S: Address, C: Cost>(bytes: &[u8], at: usize) -> Record<D::Pattern, S::Pattern, C::Pattern>
+pub(crate) fn record_at<D: Address, S: Address, C: Cost>(
+    bytes: &[u8],
+    at: usize,
+) -> Record<D::Pattern, S::Pattern, C::Pattern>
     requires { ⌜ at + recordSize (kind (D·Written .code) (D·Written .size)) (kind (S·Written .code) (S·Written .size)) (kind (C·Written .code) (C·Written .size)) ≤ length (now bytes) ⌝ }
     ensures { λ r. ⌜ entryOf (D·Written .number) (S·Written .number) (C·Written .number) r ≡ decodeRecord (kind (D·Written .code) (D·Written .size)) (kind (S·Written .code) (S·Written .size)) (kind (C·Written .code) (C·Written .size)) (drop at (now (bytes .entry))) ⌝ }
 {
@@ -42,15 +45,25 @@ pub(crate) fn record_at<D: Address, S: Address, C: Cost>(bytes: &[u8], at: usize
     let directive = cost + bytes_of::<C>();
     Record {
         label: number_at(bytes, at, 2) as u16,
-        destination: Prefix { length: number_at(bytes, at + 2, 1) as u8, address: pattern_at::<D>(bytes, at + 3) },
-        source: Prefix { length: number_at(bytes, source, 1) as u8, address: pattern_at::<S>(bytes, source + 1) },
+        destination: Prefix {
+            length: number_at(bytes, at + 2, 1) as u8,
+            address: pattern_at::<D>(bytes, at + 3),
+        },
+        source: Prefix {
+            length: number_at(bytes, source, 1) as u8,
+            address: pattern_at::<S>(bytes, source + 1),
+        },
         cost: pattern_at::<C>(bytes, cost),
         directive: unpack_directive(number_at(bytes, directive, 4) as u32),
     }
 }
 
 // Writes a record from `at` on.
-pub(crate) fn put_record<D: Address, S: Address, C: Cost>(buffer: &mut [u8], at: usize, place: &Record<D::Pattern, S::Pattern, C::Pattern>)
+pub(crate) fn put_record<D: Address, S: Address, C: Cost>(
+    buffer: &mut [u8],
+    at: usize,
+    place: &Record<D::Pattern, S::Pattern, C::Pattern>,
+)
     requires { ⌜ at + recordSize (kind (D·Written .code) (D·Written .size)) (kind (S·Written .code) (S·Written .size)) (kind (C·Written .code) (C·Written .size)) ≤ length (now buffer) ⌝ }
     ensures { λ _. ⌜ now (buffer .exit) ≡ paste (now (buffer .entry)) at (encodeRecord (kind (D·Written .code) (D·Written .size)) (kind (S·Written .code) (S·Written .size)) (kind (C·Written .code) (C·Written .size)) (entryOf (D·Written .number) (S·Written .number) (C·Written .number) (now (place .entry)))) (recordSize (kind (D·Written .code) (D·Written .size)) (kind (S·Written .code) (S·Written .size)) (kind (C·Written .code) (C·Written .size))) ⌝ }
 {
@@ -63,5 +76,10 @@ pub(crate) fn put_record<D: Address, S: Address, C: Cost>(buffer: &mut [u8], at:
     put_number(buffer, source, 1, place.source.length as u128);
     put_pattern::<S>(buffer, source + 1, place.source.address);
     put_pattern::<C>(buffer, cost, place.cost);
-    put_number(buffer, directive, 4, pack_directive(place.directive) as u128);
+    put_number(
+        buffer,
+        directive,
+        4,
+        pack_directive(place.directive) as u128,
+    );
 }

@@ -55,7 +55,11 @@ fn front<R: Copy>(places: &[R], count: usize) -> &[R]
 }
 
 // Loads a table into places and writes it again: the buffer then begins with the same bytes.
-pub fn load_and_write<D: Address, S: Address, C: Cost>(bytes: &[u8], places: &mut [Record<D::Pattern, S::Pattern, C::Pattern>], buffer: &mut [u8]) -> Result<usize, TurnFault>
+pub fn load_and_write<D: Address, S: Address, C: Cost>(
+    bytes: &[u8],
+    places: &mut [Record<D::Pattern, S::Pattern, C::Pattern>],
+    buffer: &mut [u8],
+) -> Result<usize, TurnFault>
     ensures answer { λ r. ⌜ ((lawful : ℕ → Bool) → Tells (C·Written .number) (C·Written .reads) lawful → r ≡ loadTurn (tableVerdict (kind (D·Written .code) (D·Written .size)) (kind (S·Written .code) (S·Written .size)) (kind (C·Written .code) (C·Written .size)) lawful (length (now (places .entry))) (now (bytes .entry))) (λ n. writeVerdict (kind (D·Written .code) (D·Written .size)) (kind (S·Written .code) (S·Written .size)) (kind (C·Written .code) (C·Written .size)) n (length (now (buffer .entry))))) ⌝ }
     ensures places { λ r. ⌜ Placed (entryOf (D·Written .number) (S·Written .number) (C·Written .number)) (decode (kind (D·Written .code) (D·Written .size)) (kind (S·Written .code) (S·Written .size)) (kind (C·Written .code) (C·Written .size)) (now (bytes .entry))) (now (places .entry)) (now (places .exit)) (filterCount (now (bytes .entry))) r ⌝ }
     ensures same { λ r. ⌜ Rewritten (now (bytes .entry)) (now (buffer .entry)) (now (buffer .exit)) r ⌝ }
@@ -66,7 +70,11 @@ pub fn load_and_write<D: Address, S: Address, C: Cost>(bytes: &[u8], places: &mu
 }
 
 // Writes the table of places and loads it into other ones: where the places held lawful filters, those are then the same.
-pub fn write_and_load<D: Address, S: Address, C: Cost>(places: &[Record<D::Pattern, S::Pattern, C::Pattern>], buffer: &mut [u8], into: &mut [Record<D::Pattern, S::Pattern, C::Pattern>]) -> Result<usize, TurnFault>
+pub fn write_and_load<D: Address, S: Address, C: Cost>(
+    places: &[Record<D::Pattern, S::Pattern, C::Pattern>],
+    buffer: &mut [u8],
+    into: &mut [Record<D::Pattern, S::Pattern, C::Pattern>],
+) -> Result<usize, TurnFault>
     ensures answer { λ r. ⌜ ((lawful : ℕ → Bool) → Tells (C·Written .number) (C·Written .reads) lawful → r ≡ writeLoad (writeVerdict (kind (D·Written .code) (D·Written .size)) (kind (S·Written .code) (S·Written .size)) (kind (C·Written .code) (C·Written .size)) (length (now (places .entry))) (length (now (buffer .entry)))) (tableVerdict (kind (D·Written .code) (D·Written .size)) (kind (S·Written .code) (S·Written .size)) (kind (C·Written .code) (C·Written .size)) lawful (length (now (into .entry))) (encode (kind (D·Written .code) (D·Written .size)) (kind (S·Written .code) (S·Written .size)) (kind (C·Written .code) (C·Written .size)) (map (entryOf (D·Written .number) (S·Written .number) (C·Written .number)) (now (places .entry)))))) ⌝ }
     ensures bytes { λ _. ⌜ now (buffer .exit) ≡ written (writeVerdict (kind (D·Written .code) (D·Written .size)) (kind (S·Written .code) (S·Written .size)) (kind (C·Written .code) (C·Written .size)) (length (now (places .entry))) (length (now (buffer .entry)))) (encode (kind (D·Written .code) (D·Written .size)) (kind (S·Written .code) (S·Written .size)) (kind (C·Written .code) (C·Written .size)) (map (entryOf (D·Written .number) (S·Written .number) (C·Written .number)) (now (places .entry)))) (now (buffer .entry)) ⌝ }
     ensures memory { λ r. ⌜ Into (entryOf (D·Written .number) (S·Written .number) (C·Written .number)) (decode (kind (D·Written .code) (D·Written .size)) (kind (S·Written .code) (S·Written .size)) (kind (C·Written .code) (C·Written .size)) (encode (kind (D·Written .code) (D·Written .size)) (kind (S·Written .code) (S·Written .size)) (kind (C·Written .code) (C·Written .size)) (map (entryOf (D·Written .number) (S·Written .number) (C·Written .number)) (now (places .entry))))) (now (into .entry)) (now (into .exit)) r ⌝ }

@@ -21,12 +21,21 @@ fn put_head<D: Address, S: Address, C: Cost>(buffer: &mut [u8], count: u16)
     requires { ⌜ 4 ≤ length (now buffer) ⌝ }
     ensures { λ _. ⌜ now (buffer .exit) ≡ paste (now (buffer .entry)) 0 (encodeHead (kind (D·Written .code) (D·Written .size)) (kind (S·Written .code) (S·Written .size)) (kind (C·Written .code) (C·Written .size)) count) 4 ⌝ }
 {
-    let head = Head { edition: 1, destination: D::kind(), source: S::kind(), cost: C::kind(), count };
+    let head = Head {
+        edition: 1,
+        destination: D::kind(),
+        source: S::kind(),
+        cost: C::kind(),
+        count,
+    };
     put_number(buffer, 0, 4, head.pack() as u128);
 }
 
 // Writes the records of places behind the head.
-fn put_records<D: Address, S: Address, C: Cost>(places: &[Record<D::Pattern, S::Pattern, C::Pattern>], buffer: &mut [u8])
+fn put_records<D: Address, S: Address, C: Cost>(
+    places: &[Record<D::Pattern, S::Pattern, C::Pattern>],
+    buffer: &mut [u8],
+)
     requires { ⌜ tableSize (kind (D·Written .code) (D·Written .size)) (kind (S·Written .code) (S·Written .size)) (kind (C·Written .code) (C·Written .size)) (length (now places)) ≤ length (now buffer) ⌝ ∗ ⌜ length (now places) ≤ 4095 ⌝ }
     ensures { λ _. ⌜ now (buffer .exit) ≡ paste (now (buffer .entry)) 4 (encodeRecords (kind (D·Written .code) (D·Written .size)) (kind (S·Written .code) (S·Written .size)) (kind (C·Written .code) (C·Written .size)) (map (entryOf (D·Written .number) (S·Written .number) (C·Written .number)) (now (places .entry)))) (length (now (places .entry)) * recordSize (kind (D·Written .code) (D·Written .size)) (kind (S·Written .code) (S·Written .size)) (kind (C·Written .code) (C·Written .size))) ⌝ }
 {
@@ -39,7 +48,10 @@ fn put_records<D: Address, S: Address, C: Cost>(places: &[Record<D::Pattern, S::
 
 // Writes the table of places from the buffer's start, and answers how many bytes it has; later bytes stay. A buffer without
 // room is refused, and then nothing is written; so are more places than a head can count, for which no buffer has room.
-pub fn write_table<D: Address, S: Address, C: Cost>(places: &[Record<D::Pattern, S::Pattern, C::Pattern>], buffer: &mut [u8]) -> Result<usize, WriteFault>
+pub fn write_table<D: Address, S: Address, C: Cost>(
+    places: &[Record<D::Pattern, S::Pattern, C::Pattern>],
+    buffer: &mut [u8],
+) -> Result<usize, WriteFault>
     ensures answer { λ r. ⌜ r ≡ writeVerdict (kind (D·Written .code) (D·Written .size)) (kind (S·Written .code) (S·Written .size)) (kind (C·Written .code) (C·Written .size)) (length (now (places .entry))) (length (now (buffer .entry))) ⌝ }
     ensures memory { λ r. ⌜ now (buffer .exit) ≡ written r (encode (kind (D·Written .code) (D·Written .size)) (kind (S·Written .code) (S·Written .size)) (kind (C·Written .code) (C·Written .size)) (map (entryOf (D·Written .number) (S·Written .number) (C·Written .number)) (now (places .entry)))) (now (buffer .entry)) ⌝ }
 {

@@ -9,9 +9,9 @@ use Rattle.tables.proofs.check.check_at.Needs as need
 
 pub returns-in-Ok : need.returns-in-Ok
 returns-in-Ok g c =
-    record
-    { answer = λ pass tells. counted-at (kind (g .D·Written .code) (g .D·Written .size)) (kind (g .S·Written .code) (g .S·Written .size)) (kind (g .C·Written .code) (g .C·Written .size)) pass (labels (decodeRecords (kind (g .D·Written .code) (g .D·Written .size)) (kind (g .S·Written .code) (g .S·Written .size)) (kind (g .C·Written .code) (g .C·Written .size)) (c .args .i) (drop 4 (c .args .bytes .now)))) (c .args .i + 1) (c .is-label-before-used .result) (entryOf (g .D·Written .number) (g .S·Written .number) (g .C·Written .number) (c .record-at-place .result)) (decodeRecord (kind (g .D·Written .code) (g .D·Written .size)) (kind (g .S·Written .code) (g .S·Written .size)) (kind (g .C·Written .code) (g .C·Written .size)) (drop (4 + c .args .i * recordSize (kind (g .D·Written .code) (g .D·Written .size)) (kind (g .S·Written .code) (g .S·Written .size)) (kind (g .C·Written .code) (g .C·Written .size))) (c .args .bytes .now))) _ (c .in-Ok .ensures tt .answer pass tells) (c .is-label-before-used .ensures) (c .record-at-place .ensures ∙ record-same (kind (g .D·Written .code) (g .D·Written .size)) (kind (g .S·Written .code) (g .S·Written .size)) (kind (g .C·Written .code) (g .C·Written .size)) (c .args .bytes .now) (c .args .i) (c .record-size .result) (c .record-size .ensures .size))
-    ; passed = sym (verdict-same (kind (g .D·Written .code) (g .D·Written .size)) (kind (g .S·Written .code) (g .S·Written .size)) (kind (g .C·Written .code) (g .C·Written .size)) (λ _. true) (labels (decodeRecords (kind (g .D·Written .code) (g .D·Written .size)) (kind (g .S·Written .code) (g .S·Written .size)) (kind (g .C·Written .code) (g .C·Written .size)) (c .args .i) (drop 4 (c .args .bytes .now)))) (c .is-label-before-used .result) (entryOf (g .D·Written .number) (g .S·Written .number) (g .C·Written .number) (c .record-at-place .result)) (decodeRecord (kind (g .D·Written .code) (g .D·Written .size)) (kind (g .S·Written .code) (g .S·Written .size)) (kind (g .C·Written .code) (g .C·Written .size)) (drop (4 + c .args .i * recordSize (kind (g .D·Written .code) (g .D·Written .size)) (kind (g .S·Written .code) (g .S·Written .size)) (kind (g .C·Written .code) (g .C·Written .size))) (c .args .bytes .now))) (c .is-label-before-used .ensures) (c .record-at-place .ensures ∙ record-same (kind (g .D·Written .code) (g .D·Written .size)) (kind (g .S·Written .code) (g .S·Written .size)) (kind (g .C·Written .code) (g .C·Written .size)) (c .args .bytes .now) (c .args .i) (c .record-size .result) (c .record-size .ensures .size))) ∙ c .in-Ok .ensures tt .passed
+    record {
+      answer = λ pass tells. counted-at (kind (g .D·Written .code) (g .D·Written .size)) (kind (g .S·Written .code) (g .S·Written .size)) (kind (g .C·Written .code) (g .C·Written .size)) pass (labels (decodeRecords (kind (g .D·Written .code) (g .D·Written .size)) (kind (g .S·Written .code) (g .S·Written .size)) (kind (g .C·Written .code) (g .C·Written .size)) (c .args .i) (drop 4 (c .args .bytes .now)))) (c .args .i + 1) (c .is-label-before-used .result) (entryOf (g .D·Written .number) (g .S·Written .number) (g .C·Written .number) (c .record-at-place .result)) (decodeRecord (kind (g .D·Written .code) (g .D·Written .size)) (kind (g .S·Written .code) (g .S·Written .size)) (kind (g .C·Written .code) (g .C·Written .size)) (drop (4 + c .args .i * recordSize (kind (g .D·Written .code) (g .D·Written .size)) (kind (g .S·Written .code) (g .S·Written .size)) (kind (g .C·Written .code) (g .C·Written .size))) (c .args .bytes .now))) _ (c .in-Ok .ensures tt .answer pass tells) (c .is-label-before-used .ensures) (c .record-at-place .ensures ∙ record-same (kind (g .D·Written .code) (g .D·Written .size)) (kind (g .S·Written .code) (g .S·Written .size)) (kind (g .C·Written .code) (g .C·Written .size)) (c .args .bytes .now) (c .args .i) (c .record-size .result) (c .record-size .ensures .size));
+      passed = sym (verdict-same (kind (g .D·Written .code) (g .D·Written .size)) (kind (g .S·Written .code) (g .S·Written .size)) (kind (g .C·Written .code) (g .C·Written .size)) (λ _. true) (labels (decodeRecords (kind (g .D·Written .code) (g .D·Written .size)) (kind (g .S·Written .code) (g .S·Written .size)) (kind (g .C·Written .code) (g .C·Written .size)) (c .args .i) (drop 4 (c .args .bytes .now)))) (c .is-label-before-used .result) (entryOf (g .D·Written .number) (g .S·Written .number) (g .C·Written .number) (c .record-at-place .result)) (decodeRecord (kind (g .D·Written .code) (g .D·Written .size)) (kind (g .S·Written .code) (g .S·Written .size)) (kind (g .C·Written .code) (g .C·Written .size)) (drop (4 + c .args .i * recordSize (kind (g .D·Written .code) (g .D·Written .size)) (kind (g .S·Written .code) (g .S·Written .size)) (kind (g .C·Written .code) (g .C·Written .size))) (c .args .bytes .now))) (c .is-label-before-used .ensures) (c .record-at-place .ensures ∙ record-same (kind (g .D·Written .code) (g .D·Written .size)) (kind (g .S·Written .code) (g .S·Written .size)) (kind (g .C·Written .code) (g .C·Written .size)) (c .args .bytes .now) (c .args .i) (c .record-size .result) (c .record-size .ensures .size))) ∙ c .in-Ok .ensures tt .passed;
     }
 
 pub returns-in-Err : need.returns-in-Err

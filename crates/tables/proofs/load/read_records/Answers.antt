@@ -21,7 +21,7 @@ loop-i-again g c =
 pub returns : need.returns
 returns g c =
     let e : c .loop-i .i ≡ c .args .count = omega arith in
-    record
-    { read = subst (λ (n : ℕ). map (entryOf (g .D·Written .number) (g .S·Written .number) (g .C·Written .number)) (take n (c .loop-i .places)) ≡ decodeRecords (kind (g .D·Written .code) (g .D·Written .size)) (kind (g .S·Written .code) (g .S·Written .size)) (kind (g .C·Written .code) (g .C·Written .size)) n (drop 4 (c .args .bytes .now))) e (c .loop-i .inv .0)
-    ; kept = subst (λ (n : ℕ). drop n (c .loop-i .places) ≡ drop n (c .args .places .now)) e (c .loop-i .inv .1)
+    record {
+      read = subst (λ (n : ℕ). map (entryOf (g .D·Written .number) (g .S·Written .number) (g .C·Written .number)) (take n (c .loop-i .places)) ≡ decodeRecords (kind (g .D·Written .code) (g .D·Written .size)) (kind (g .S·Written .code) (g .S·Written .size)) (kind (g .C·Written .code) (g .C·Written .size)) n (drop 4 (c .args .bytes .now))) e (c .loop-i .inv .0);
+      kept = subst (λ (n : ℕ). drop n (c .loop-i .places) ≡ drop n (c .args .places .now)) e (c .loop-i .inv .1);
     }

@@ -15,7 +15,7 @@ loop-i-again c = read-more (c .args .bytes .now) (c .args .at) (c .loop-i .i) (c
 pub returns : need.returns
 returns c =
     let e : c .loop-i .i ≡ c .args .count = omega arith in
-    record
-    { value = c .loop-i .inv .0 ∙ ap (λ (i : ℕ). word (take i (drop (c .args .at) (c .args .bytes .now)))) e
-    ; fits = subst (λ (i : ℕ). c .loop-i .n < 256 ^ i) e (c .loop-i .inv .1)
+    record {
+      value = c .loop-i .inv .0 ∙ ap (λ (i : ℕ). word (take i (drop (c .args .at) (c .args .bytes .now)))) e;
+      fits = subst (λ (i : ℕ). c .loop-i .n < 256 ^ i) e (c .loop-i .inv .1);
     }

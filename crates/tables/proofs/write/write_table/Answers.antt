@@ -17,9 +17,9 @@ returns g c =
     let n = length (c .args .places .now) in
     let rs = map (entryOf (g .D·Written .number) (g .S·Written .number) (g .C·Written .number)) (c .args .places .now) in
     let e : 4 + n * c .record-size .result ≡ tableSize (kind (g .D·Written .code) (g .D·Written .size)) (kind (g .S·Written .code) (g .S·Written .size)) (kind (g .C·Written .code) (g .C·Written .size)) n = ap (λ (k : ℕ). 4 + n * k) (c .record-size .ensures .size) in
-    record
-    { answer = ap Ok e ∙ room-ok (kind (g .D·Written .code) (g .D·Written .size)) (kind (g .S·Written .code) (g .S·Written .size)) (kind (g .C·Written .code) (g .C·Written .size)) n (length (c .args .buffer .now)) (c .if-count-gt4095 .left) (omega (arith, e, c .if-buffer-needed .left))
-    ; memory =
-        written-is (kind (g .D·Written .code) (g .D·Written .size)) (kind (g .S·Written .code) (g .S·Written .size)) (kind (g .C·Written .code) (g .C·Written .size)) rs n (c .args .buffer .now) (c .put-head .last .buffer) (c .put-records .last .buffer) (sym (length-map (c .args .places .now) (entryOf (g .D·Written .number) (g .S·Written .number) (g .C·Written .number)))) (omega (arith, c .if-buffer-needed .left)) (c .put-head .ensures) (c .put-records .ensures)
-        ∙ ap (λ (k : ℕ). encode (kind (g .D·Written .code) (g .D·Written .size)) (kind (g .S·Written .code) (g .S·Written .size)) (kind (g .C·Written .code) (g .C·Written .size)) rs ++ drop k (c .args .buffer .now)) (sym e)
+    record {
+      answer = ap Ok e ∙ room-ok (kind (g .D·Written .code) (g .D·Written .size)) (kind (g .S·Written .code) (g .S·Written .size)) (kind (g .C·Written .code) (g .C·Written .size)) n (length (c .args .buffer .now)) (c .if-count-gt4095 .left) (omega (arith, e, c .if-buffer-needed .left));
+      memory =
+          written-is (kind (g .D·Written .code) (g .D·Written .size)) (kind (g .S·Written .code) (g .S·Written .size)) (kind (g .C·Written .code) (g .C·Written .size)) rs n (c .args .buffer .now) (c .put-head .last .buffer) (c .put-records .last .buffer) (sym (length-map (c .args .places .now) (entryOf (g .D·Written .number) (g .S·Written .number) (g .C·Written .number)))) (omega (arith, c .if-buffer-needed .left)) (c .put-head .ensures) (c .put-records .ensures)
+          ∙ ap (λ (k : ℕ). encode (kind (g .D·Written .code) (g .D·Written .size)) (kind (g .S·Written .code) (g .S·Written .size)) (kind (g .C·Written .code) (g .C·Written .size)) rs ++ drop k (c .args .buffer .now)) (sym e);
     }
