@@ -2,12 +2,13 @@
 use Prim.Native.Nat.{ℕ, suc, _+_, _*_, _<_, _≤_}
 use mathlib.Core.Bool.{Bool}
 use mathlib.Core.List.{List, [], _∷_, _++_, map}
-use mathlib.Core.Path.{_≡_, refl, sym, ap, _∙_}
+use mathlib.Core.Path.{_≡_, refl, sym, ap, subst, _∙_}
 use native.Mathlib.Nat.{mul-le-mul-right}
 use native.Mathlib.Omega.{arith}
 use lib.ListN.{length, take, drop, getD}
 use Rattle.std.specs.declared.result.Result.{Result}
 use Rattle.std.specs.declared.result.Result.the-variants.{Ok, Err}
+use Rattle.std.specs.Results.{Cases}
 use Rattle.std.proofs.shelf.Lists.{at-drop-more, at-drop-all, map-more, length-map, length-take-le}
 use Rattle.tables.specs.declared.fault.RecordFault.{RecordFault}
 use Rattle.tables.specs.declared.fault.InRecord.{InRecord}
@@ -36,6 +37,11 @@ verdict-same D S C pass seen u r s f h = ap (λ (t : Bool). entryVerdict D S C p
 
 pub counted-at : (D S C : Kind) (pass : ℕ → Bool) (seen : List ℕ) (k : ℕ) (u : Bool) (r s : Entry) (a : Result (Unit {0}) RecordFault) → a ≡ entryVerdict D S C pass u r → u ≡ has (r .label) seen → r ≡ s → counted k a ≡ counted k (entryVerdict D S C pass (has (s .label) seen) s)
 counted-at D S C pass seen k u r s a e f h = ap (counted k) (e ∙ verdict-same D S C pass seen u r s f h)
+
+-- a record that passes, passes with its number
+pub counted-passed : (k : ℕ) (a : Result (Unit {0}) RecordFault) (r : Result (Unit {0}) InRecord) (v w : Result (Unit {0}) RecordFault) → r ≡ counted k a → w ≡ v → Cases a (λ _. v ≡ Ok tt) (λ _. Unit {0}) → Cases r (λ _. w ≡ Ok tt) (λ _. Unit {0})
+counted-passed k (Ok x) r v w e f h = subst (λ (z : Result (Unit {0}) InRecord). Cases z (λ _. w ≡ Ok tt) (λ _. Unit {0})) (sym e) (f ∙ h)
+counted-passed k (Err x) r v w e f h = subst (λ (z : Result (Unit {0}) InRecord). Cases z (λ _. w ≡ Ok tt) (λ _. Unit {0})) (sym e) tt
 
 pub record-same : (D S C : Kind) (bytes : List ℕ) (i size : ℕ) → size ≡ recordSize D S C → decodeRecord D S C (drop (4 + i * size) bytes) ≡ decodeRecord D S C (drop (4 + i * recordSize D S C) bytes)
 record-same D S C bytes i size e = ap (λ (k : ℕ). decodeRecord D S C (drop (4 + i * k) bytes)) e

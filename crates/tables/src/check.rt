@@ -84,6 +84,20 @@ fn is_label_before<D: Address, S: Address, C: Cost>(bytes: &[u8], count: usize, 
     false
 }
 
+// The answer on the record at a place, counted from 0: a refusal names the record, counted from 1.
+fn in_record(i: usize, answer: Result<(), RecordFault>) -> Result<(), InRecord>
+    requires { ⌜ i < 4095 ⌝ }
+    ensures { λ r. ⌜ r ≡ counted (i + 1) answer ⌝ }
+{
+    match answer {
+        Ok(()) => Ok(()),
+        Err(fault) => Err(InRecord {
+            record: i as u16 + 1,
+            fault,
+        }),
+    }
+}
+
 // The refusal of the record at a place, counted from 0.
 fn check_at<D: Address, S: Address, C: Cost>(bytes: &[u8], i: usize) -> Result<(), InRecord>
     requires { ⌜ tableSize (kind (D·Written .code) (D·Written .size)) (kind (S·Written .code) (S·Written .size)) (kind (C·Written .code) (C·Written .size)) (i + 1) ≤ length (now bytes) ⌝ ∗ ⌜ i < 4095 ⌝ }
@@ -92,13 +106,7 @@ fn check_at<D: Address, S: Address, C: Cost>(bytes: &[u8], i: usize) -> Result<(
 {
     let place = record_at::<D, S, C>(bytes, 4 + i * record_size::<D, S, C>());
     let used = is_label_before::<D, S, C>(bytes, i, place.label);
-    match check_record::<D, S, C>(&place, used) {
-        Ok(()) => Ok(()),
-        Err(fault) => Err(InRecord {
-            record: i as u16 + 1,
-            fault,
-        }),
-    }
+    in_record(i, check_record::<D, S, C>(&place, used))
 }
 
 // The first refusal of a table's records, or how many there are.
