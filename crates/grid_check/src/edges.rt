@@ -18,7 +18,7 @@ use kinds::socket::SocketAddress;
 use std::error::AnyError;
 
 // One filter that matches everything, and then one of destination 101 alone.
-pub fn run_single(rt: &LibcRuntime) -> Result<(), AnyError> {
+pub(crate) fn run_single(rt: &LibcRuntime) -> Result<(), AnyError> {
     let mut places = vec![in rt.alloc(); junk::record(0u16); 1]?;
     let mut nodes = vec![in rt.alloc(); junk::node(); 34]?;
     let mut book = Book::new(places.as_mut_slice());
@@ -77,7 +77,7 @@ fn run_places(rt: &LibcRuntime, count: usize) -> Result<(), AnyError> {
     Ok(())
 }
 
-pub fn run_pair(rt: &LibcRuntime) -> Result<(), AnyError> {
+pub(crate) fn run_pair(rt: &LibcRuntime) -> Result<(), AnyError> {
     run_places(rt, 131)?;
     run_places(rt, 130)
 }

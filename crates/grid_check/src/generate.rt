@@ -18,12 +18,12 @@ pub struct Generator {
 }
 
 impl Generator {
-    pub fn new(seed: u64) -> Generator {
+    pub(crate) fn new(seed: u64) -> Generator {
         Generator { state: seed }
     }
 
     // The next number: the upper half of the state, of which the lower bits repeat soon.
-    pub fn draw(&mut self) -> u32 {
+    pub(crate) fn draw(&mut self) -> u32 {
         let next = self.state
             .wrapping_mul(6364136223846793005)
             .wrapping_add(1442695040888963407);
@@ -97,14 +97,14 @@ fn draw_ipv4(generator: &mut Generator, label: u16) -> Filter<Ipv4, Ipv4, Rank> 
 }
 
 // Adds so many filters, of the largest label first: the smaller label then is not the earlier filter.
-pub fn add_tiny(book: &mut Book<Tiny, Tiny, Rank>, generator: &mut Generator, count: u16) {
+pub(crate) fn add_tiny(book: &mut Book<Tiny, Tiny, Rank>, generator: &mut Generator, count: u16) {
     for i in 0..count {
         let filter = draw_tiny(generator, count - i);
         let _ = book.add(&filter);
     }
 }
 
-pub fn add_ipv4(book: &mut Book<Ipv4, Ipv4, Rank>, generator: &mut Generator, count: u16) {
+pub(crate) fn add_ipv4(book: &mut Book<Ipv4, Ipv4, Rank>, generator: &mut Generator, count: u16) {
     for i in 0..count {
         let filter = draw_ipv4(generator, count - i);
         let _ = book.add(&filter);
@@ -112,7 +112,7 @@ pub fn add_ipv4(book: &mut Book<Ipv4, Ipv4, Rank>, generator: &mut Generator, co
 }
 
 // Two addresses that the prefixes of two filters of the book begin.
-pub fn draw_pair(book: &Book<Ipv4, Ipv4, Rank>, generator: &mut Generator) -> (Ipv4, Ipv4) {
+pub(crate) fn draw_pair(book: &Book<Ipv4, Ipv4, Rank>, generator: &mut Generator) -> (Ipv4, Ipv4) {
     let destination = match book.get(generator.draw() as usize % 4095) {
         Some(filter) => draw_within(generator, &filter.destination),
         None => Ipv4::new(0),

@@ -6,7 +6,7 @@ use grid::node::Kept;
 use grid::node::Node;
 
 // A source node with both children, both switches and a kept filter that nothing beats.
-pub fn node() -> Node {
+pub(crate) fn node() -> Node {
     Node::Source {
         zero: Some(1),
         one: Some(2),
@@ -21,7 +21,7 @@ pub fn node() -> Node {
 }
 
 // A record that matches everything at no cost, under a label that the tests use.
-pub fn record<A>(address: A) -> Record<A, A, u32>
+pub(crate) fn record<A>(address: A) -> Record<A, A, u32>
 where
     A: Copy,
 {

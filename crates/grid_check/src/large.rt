@@ -36,7 +36,7 @@ fn compare_some(
     tally
 }
 
-pub fn run(rt: &LibcRuntime) -> Result<(), AnyError> {
+pub(crate) fn run(rt: &LibcRuntime) -> Result<(), AnyError> {
     let mut places = vec![in rt.alloc(); junk::record(0u32); 4095]?;
     let mut nodes = vec![in rt.alloc(); junk::node(); 266176]?;
     let mut book = Book::new(places.as_mut_slice());

@@ -82,7 +82,7 @@ fn compare_fresh(
     Ok(())
 }
 
-pub fn run(rt: &LibcRuntime) -> Result<(), AnyError> {
+pub(crate) fn run(rt: &LibcRuntime) -> Result<(), AnyError> {
     let mut places = vec![in rt.alloc(); junk::record(0u8); 120]?;
     let mut nodes = vec![in rt.alloc(); junk::node(); 2041]?;
     let mut book = Book::new(places.as_mut_slice());

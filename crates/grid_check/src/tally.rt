@@ -13,7 +13,7 @@ pub struct Tally {
 }
 
 impl Tally {
-    pub fn new() -> Tally {
+    pub(crate) fn new() -> Tally {
         Tally {
             compared: 0,
             differed: 0,
@@ -23,7 +23,7 @@ impl Tally {
     }
 
     // Counts a search, what it found, and whether that is what was wanted.
-    pub fn count(&mut self, found: (Option<(u16, Directive)>, u32), wanted: bool) {
+    pub(crate) fn count(&mut self, found: (Option<(u16, Directive)>, u32), wanted: bool) {
         let (choice, visits) = found;
         self.compared = self.compared.saturating_add(1);
         if !wanted {
@@ -52,7 +52,7 @@ pub impl fmt::Display for Tally as TallyDisplay {
 }
 
 // Whether a search found the filter that was wanted, by its label and directive.
-pub fn is_same<D: Copy, S: Copy, C: Copy>(
+pub(crate) fn is_same<D: Copy, S: Copy, C: Copy>(
     found: Option<(u16, Directive)>,
     wanted: Option<Filter<D, S, C>>,
 ) -> bool {

@@ -7,7 +7,7 @@ use kinds::cost::Cost;
 use std::io;
 
 // Builds, and tells how many nodes were used or by which number it was refused.
-pub fn tell_build<D: Address, S: Address, C: Cost>(
+pub(crate) fn tell_build<D: Address, S: Address, C: Cost>(
     rt: &LibcRuntime,
     what: &str,
     grid: &mut Grid<D, S, C>,
@@ -23,7 +23,7 @@ pub fn tell_build<D: Address, S: Address, C: Cost>(
 }
 
 // Tells what a search found.
-pub fn tell_search(
+pub(crate) fn tell_search(
     rt: &LibcRuntime,
     what: &str,
     found: (Option<(u16, Directive)>, u32),

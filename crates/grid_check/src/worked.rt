@@ -17,7 +17,7 @@ use std::error::AnyError;
 use std::io;
 
 // A filter of two prefixes, each by its bits, which stand highest, and its length.
-pub fn filter(
+pub(crate) fn filter(
     label: u16,
     destination: (u16, u8),
     source: (u16, u8),
@@ -49,7 +49,7 @@ fn add_worked(book: &mut Book<Socket, Socket, Rank>) {
 }
 
 // Searches two addresses and tells what was found.
-pub fn search(
+pub(crate) fn search(
     rt: &LibcRuntime,
     grid: &Grid<Socket, Socket, Rank>,
     what: &str,
@@ -82,7 +82,7 @@ fn change_third(
     search(rt, grid, "10, 1101", 0x8000, 0xd000)
 }
 
-pub fn run(rt: &LibcRuntime) -> Result<(), AnyError> {
+pub(crate) fn run(rt: &LibcRuntime) -> Result<(), AnyError> {
     let mut places = vec![in rt.alloc(); junk::record(0u16); 5]?;
     let mut nodes = vec![in rt.alloc(); junk::node(); 166]?;
     let mut book = Book::new(places.as_mut_slice());

@@ -27,7 +27,7 @@ pub impl Read for Drip<'_> as DripRead {
 }
 
 // The lines of an input that comes byte by byte, as the program reads it.
-pub fn streamed(heap: Global, input: &[u8]) -> io::Result<String> {
+pub(crate) fn streamed(heap: Global, input: &[u8]) -> io::Result<String> {
     let mut drip = Drip { input, at: 0 };
     let mut bytes = [0u8; ITEM_BYTES];
     let mut text = String::new(heap);

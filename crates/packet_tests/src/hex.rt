@@ -4,7 +4,7 @@ use std::alloc::AllocError;
 use std::alloc::Global;
 
 // The bytes of hexadecimal digits in small letters; anything else is passed over.
-pub fn bytes(heap: Global, text: &str) -> Result<Vec<u8>, AllocError> {
+pub(crate) fn bytes(heap: Global, text: &str) -> Result<Vec<u8>, AllocError> {
     let mut out = Vec::new(heap);
     let mut upper: Option<u8> = None;
     for letter in text.bytes() {
@@ -46,7 +46,7 @@ fn holds(heap: Global, case: &str) -> Result<bool, AllocError> {
 }
 
 // The cases of a table that do not hold, or are not written as cases.
-pub fn failing(heap: Global, table: &str) -> Result<String, AllocError> {
+pub(crate) fn failing(heap: Global, table: &str) -> Result<String, AllocError> {
     let mut cases = String::new(heap);
     for case in table.lines() {
         if !holds(heap, case)? {
