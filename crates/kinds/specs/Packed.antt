@@ -47,3 +47,15 @@ module _ {X : Type 0} (limit : ℕ) (make : (n : ℕ) → n < limit → X) (pack
 
   pub reads_packed : (n : ℕ) (x : X) → pack x ≡ n → ◌≡◌ {A = Result X PatternFault} (Ok x) (ok_or (below limit make n) Unlawful)
   reads_packed n x e = ap (λ (o : Option X). ok_or {E = PatternFault} o Unlawful) (sym (below_packed n x e))
+
+  -- and the number that a value is packed into reads as the value
+  pub below_again : (x : X) → below limit make (pack x) ≡ Some x
+  below_again x = below_packed (pack x) x refl
+
+-- ---- values that are made of two or three numbers, each below its own limit: equal numbers make equal values
+pub same_two : {X : Type 0} {l k : ℕ} (make : (a b : ℕ) → a < l → b < k → X) {a b a' b' : ℕ} → a ≡ a' → b ≡ b' → (i : a < l) (j : b < k) (i' : a' < l) (j' : b' < k) → make a b i j ≡ make a' b' i' j'
+same_two make {a} {b} {a'} {b'} d e i j i' j' = same_made (λ n m. make n b m j) d i i' ∙ same_made (λ n m. make a' n i' m) e j j'
+
+pub same_three : {X : Type 0} {l k m : ℕ} (make : (a b c : ℕ) → a < l → b < k → c < m → X) {a b c a' b' c' : ℕ} → a ≡ a' → b ≡ b' → c ≡ c' → (i : a < l) (j : b < k) (h : c < m) (i' : a' < l) (j' : b' < k) (h' : c' < m) → make a b c i j h ≡ make a' b' c' i' j' h'
+same_three make {a} {b} {c} {a'} {b'} {c'} d e f i j h i' j' h' =
+    same_made (λ n p. make n b c p j h) d i i' ∙ same_two (λ x y p q. make a' x y i' p q) e f j h j' h'

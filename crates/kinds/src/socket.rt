@@ -1,9 +1,11 @@
 // Sockets: kind 3, 16 bits. A socket of the venue has a hall (4 bits), a row (6 bits) and its place in the row (6 bits).
-ghost use Rattle.std.specs.Prelude.{◌≡◌, ℕ, ◌+◌, ◌*◌, ◌/◌, ◌%◌, ◌^◌, ◌<◌, MatchOption};
+ghost use Rattle.std.specs.Prelude.{◌≡◌, ℕ, ◌+◌, ◌*◌, ◌/◌, ◌%◌, ◌^◌, ◌<◌, MatchOption, is_some};
 ghost use Rattle.kinds.specs.Strings.{bits};
-ghost use Rattle.kinds.specs.Parts.{hall_fits, row_fits, socket_fits};
+ghost use Rattle.kinds.specs.Parts.{hall_fits, row_fits, socket_fits, packed_hall, packed_row, packed_socket, packed_below};
+ghost use Rattle.kinds.specs.Packed.{below_some, below_again, same_three};
+ghost use Rattle.kinds.specs.Bits.{length_bits};
 ghost use Rattle.kinds.specs.Patterns.{below};
-ghost use Rattle.std.proofs.Common.{rules, arith};
+ghost use Rattle.std.proofs.Common.{ap, rules, arith};
 
 use crate::address::Address;
 use crate::written::{PatternFault, Written};
@@ -113,7 +115,7 @@ impl Written for Socket {
 
     ghost valued = { first_of (Prim.search rules, Prim.grind (arith, Self.row.coded.inj)) };
 
-    ghost again = { first_of (Prim.search rules, Prim.grind (arith, Self.row.coded.inj)) };
+    ghost again = { below_again (2 ^ 16) (λ n h. record { hall = n / 4096; row = n / 64 % 64; socket = n % 64; halls = hall_fits n h; rows = row_fits n; sockets = socket_fits n }) (λ x. x.hall * 4096 + x.row * 64 + x.socket) (λ x. packed_below x.hall x.row x.socket x.halls x.rows x.sockets) (λ x h. same_three (λ a b c i j k. record { hall = a; row = b; socket = c; halls = i; rows = j; sockets = k }) (packed_hall x.hall x.row x.socket x.rows x.sockets) (packed_row x.hall x.row x.socket x.rows x.sockets) (packed_socket x.hall x.row x.socket x.sockets) (hall_fits (x.hall * 4096 + x.row * 64 + x.socket) h) (row_fits (x.hall * 4096 + x.row * 64 + x.socket)) (socket_fits (x.hall * 4096 + x.row * 64 + x.socket)) x.halls x.rows x.sockets) };
 
     ghost back = { first_of (Prim.search rules, Prim.grind (arith, Self.row.coded.inj)) };
 
@@ -149,9 +151,9 @@ impl Address for Socket {
 
     ghost spelt = { first_of (Prim.search rules, Prim.grind (arith, Self.row.coded.inj)) };
 
-    ghost long = { first_of (Prim.search rules, Prim.grind (arith, Self.row.coded.inj)) };
+    ghost long = { λ x. length_bits 16 (x.hall * 4096 + x.row * 64 + x.socket) };
 
-    ghost every = { first_of (Prim.search rules, Prim.grind (arith, Self.row.coded.inj)) };
+    ghost every = { λ n h. ap is_some (below_some (2 ^ 16) (λ m k. record { hall = m / 4096; row = m / 64 % 64; socket = m % 64; halls = hall_fits m k; rows = row_fits m; sockets = socket_fits m }) n h) };
 
     fn width_in_bits() -> u32 {
         Self::WIDTH

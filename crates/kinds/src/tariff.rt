@@ -2,7 +2,8 @@
 ghost use Rattle.std.specs.Prelude.{◌≡◌, ℕ, ◌+◌, ◌*◌, ◌/◌, ◌%◌, ◌^◌, ◌<◌, ◌≤◌, MatchOption};
 ghost use Rattle.std.specs.Ordering.{ordering_then};
 ghost use Rattle.kinds.specs.Ordered.{by_number};
-ghost use Rattle.kinds.specs.Parts.{class_fits, price_fits};
+ghost use Rattle.kinds.specs.Parts.{class_fits, price_fits, priced_class, priced_price, priced_below};
+ghost use Rattle.kinds.specs.Packed.{below_again, same_two};
 ghost use Rattle.kinds.specs.Patterns.{below};
 ghost use Rattle.std.proofs.Common.{rules, arith};
 
@@ -103,7 +104,7 @@ impl Written for Tariff {
 
     ghost valued = { first_of (Prim.search rules, Prim.grind (arith, Self.row.coded.inj)) };
 
-    ghost again = { first_of (Prim.search rules, Prim.grind (arith, Self.row.coded.inj)) };
+    ghost again = { below_again (10 * 2 ^ 28) (λ n h. record { class = n / 2 ^ 28; price = n % 2 ^ 28; classes = class_fits n h; prices = price_fits n }) (λ x. x.class * 2 ^ 28 + x.price) (λ x. priced_below x.class x.price x.classes x.prices) (λ x h. same_two (λ c p i j. record { class = c; price = p; classes = i; prices = j }) (priced_class x.class x.price x.prices) (priced_price x.class x.price x.prices) (class_fits (x.class * 2 ^ 28 + x.price) h) (price_fits (x.class * 2 ^ 28 + x.price)) x.classes x.prices) };
 
     ghost back = { first_of (Prim.search rules, Prim.grind (arith, Self.row.coded.inj)) };
 

@@ -17,10 +17,10 @@ returns g c =
     let n = one_at c.args.places.now c.args.at c.index-places-at.result c.if-at-places.false c.index-places-at.is in
     record {
       meaning =
-          c.filter-of.ensures.meaning
+          c.filter_of.ensures.meaning
           ∙ sym (append-nil (held g.D.Address.spells g.S.Address.spells g.C.Written.reads c.index-places-at.result))
           ∙ sym (ap (rules g.D.Address.spells g.S.Address.spells g.C.Written.reads) n);
       back = λ f e.
           let h : c.index-places-at.result ≡ record_of g.D.Written.pattern g.S.Written.pattern g.C.Written.pattern f = cc in
-          c.filter-of.ensures.back f h;
+          c.filter_of.ensures.back f h;
     }

@@ -28,12 +28,12 @@ loop-call-preserved g c =
     at_drop_more (λ (zs : List (Call g.row.D.Denot g.row.S.Denot g.row.C.Denot)). zs) calls i item c.loop-call-test.true
     ∙ ap (λ (z : Call g.row.D.Denot g.row.S.Denot g.row.C.Denot). z ∷ drop (i + 1) calls) (sym c.call-item.is) in
     let few = c.loop-call.invariant.1 in
-    let long = c.make-call.auto.trail in (
-      reached_more K c.new-gateway.result c.loop-call.gateway c.make-call.new.gateway calls (drop (i + 1) calls) item
+    let long = c.make_call.auto.trail in (
+      reached_more K c.new-gateway.result c.loop-call.gateway c.make_call.new.gateway calls (drop (i + 1) calls) item
           (subst (λ (zs : List (Call g.row.D.Denot g.row.S.Denot g.row.C.Denot)). Reached K c.new-gateway.result c.loop-call.gateway calls zs) e c.loop-call.invariant.0)
-          c.make-call.ensures.history,
+          c.make_call.ensures.history,
       long ∙ few,
-      λ short. c.make-call.ensures.same (omega arith) ∙ c.loop-call.invariant.2 short,
+      λ short. c.make_call.ensures.same (omega arith) ∙ c.loop-call.invariant.2 short,
     )
 
 pub returns : goal.returns

@@ -12,9 +12,9 @@ returns g c =
       assurance =
           agree K (record { exchange = g.met.C.Cost.exchange; chain = g.met.C.Cost.chain })
           (past K (capacity_of (length c.args.places.now)) (length c.args.nodes.now) c.args.calls.now)
-          (past K (capacity_of (length c.args.other-places.now)) (length c.args.other-nodes.now) c.args.other-calls.now)
+          (past K (capacity_of (length c.args.other_places.now)) (length c.args.other_nodes.now) c.args.other_calls.now)
           (g.D.Address.string c.args.destination.now) (g.S.Address.string c.args.source.now)
-          (length c.args.trail.now) (length c.args.other-trail.now) c.replay-first.result c.replay-second.result
+          (length c.args.trail.now) (length c.args.other_trail.now) c.replay-first.result c.replay-second.result
           c.replay-first.ensures.assured c.replay-second.ensures.assured;
       same = c.replay-first.ensures.same;
       other = c.replay-second.ensures.same;

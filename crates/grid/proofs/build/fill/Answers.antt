@@ -12,13 +12,13 @@ use Rattle.grid.specs.Finish.{finish_below}
 use Rattle.grid.proofs.Built.{emptied, rules_short, built_safe, built_count, built_grid}
 use Rattle.grid.proofs.build.fill.Goals as goal
 
-pub insert-all-requires : goal.insert-all-requires
-insert-all-requires g c =
+pub insert_all-requires : goal.insert_all-requires
+insert_all-requires g c =
     record {
       start = refl;
-      bare = emptied c.args.used.now c.args.nodes.now c.empty-first.new.nodes c.requires.safe c.empty-first.ensures;
+      bare = emptied c.args.used.now c.args.nodes.now c.empty_first.new.nodes c.requires.safe c.empty_first.ensures;
       few = c.requires.few;
-      room = omega (arith, c.requires.room, c.empty-first.auto.nodes);
+      room = omega (arith, c.requires.room, c.empty_first.auto.nodes);
     }
 
 pub returns : goal.returns
@@ -28,17 +28,17 @@ returns g c =
     let lt = better g.C.Cost.order in
     let ord = ranks g.C.Cost.order (record { exchange = g.met.C.Cost.exchange; chain = g.met.C.Cost.chain }) in
     let F = rules D g.S.Address.spells g.C.Written.reads c.args.records.now in
-    let N = c.insert-all.new.nodes in
-    let u = c.insert-all.new.used in
-    let safe = c.insert-all.ensures.safe in
-    let fill = c.insert-all.ensures.grid in
-    let front = c.finish-all.new.nodes in
+    let N = c.insert_all.new.nodes in
+    let u = c.insert_all.new.used in
+    let safe = c.insert_all.ensures.safe in
+    let fill = c.insert_all.ensures.grid in
+    let front = c.finish_all.new.nodes in
     let wide : (p : g.row.D-Pattern.Denot) → length (D p) ≡ w = λ p. ap (λ (t : Str). length t) (g.met.D.Address.first p) ∙ length_bits w (g.D.Written.number p) in
     let short = rules_short D g.S.Address.spells g.C.Written.reads w wide c.args.records.now in
     let z : u - 0 ≡ u = omega arith in
     let part : take (u - 0) N ≡ take u N = ap (λ (n : ℕ). take n N) z in
-    let long : length front ≡ length (take u N) = c.finish-all.auto.nodes ∙ ap (λ (M : List Node). length M) part in
-    let is : front ≡ finish_below (w + 1) (take u N) F = c.finish-all.ensures ∙ ap (λ (M : List Node). finish_below (w + 1) M F) part in
+    let long : length front ≡ length (take u N) = c.finish_all.auto.nodes ∙ ap (λ (M : List Node). length M) part in
+    let is : front ≡ finish_below (w + 1) (take u N) F = c.finish_all.ensures ∙ ap (λ (M : List Node). finish_below (w + 1) M F) part in
     let rest : drop u N ≡ post_of 0 (u - 0) N = sym (Post-is 0 u N (omega arith)) in
     record {
       safe = subst (λ (M : List Node). Safe u (front ++ M)) rest (built_safe lt ord F N u safe fill (w + 1) short front long is);

@@ -33,8 +33,8 @@ loop-place-init g c =
       subst (λ (n : ℕ). Filled (better g.C.Cost.order) F [] c.args.nodes.now n) (sym z) (filled_none (better g.C.Cost.order) ord F c.args.nodes.now c.requires.bare),
     )
 
-pub insert-record-requires : goal.insert-record-requires
-insert-record-requires g c =
+pub insert_record-requires : goal.insert_record-requires
+insert_record-requires g c =
     let n = length c.args.records.now in
     let wd = g.D.Address.width in
     let ws = g.S.Address.width in
@@ -60,13 +60,13 @@ loop-place-preserved g c =
     let F = rules D S R xs in
     let h = c.loop-place-test.true in
     let is = c.place-item.is in
-    let m = c.insert-record.ensures.most in
+    let m = c.insert_record.ensures.most in
     let r = room-more (length xs) i g.D.Address.width g.S.Address.width h in
     let v = c.loop-place.invariant in (
-      c.insert-record.ensures.safe,
+      c.insert_record.ensures.safe,
       omega arith,
-      subst (λ (H : List (Rule g.row.C.Denot)). Filled lt F H c.insert-record.new.nodes c.insert-record.new.used) (sym (rules_more D S R xs i c.place-item.result h is))
-          (c.insert-record.ensures.grid (rules D S R (take i xs)) (rules_front D S R i xs) (rules_item D S R xs i c.place-item.result h is) v.2),
+      subst (λ (H : List (Rule g.row.C.Denot)). Filled lt F H c.insert_record.new.nodes c.insert_record.new.used) (sym (rules_more D S R xs i c.place-item.result h is))
+          (c.insert_record.ensures.grid (rules D S R (take i xs)) (rules_front D S R i xs) (rules_item D S R xs i c.place-item.result h is) v.2),
     )
 
 pub returns : goal.returns

@@ -51,8 +51,8 @@ returns g c =
       most = c.insert.ensures.most;
       grid = λ G sub own fill.
           let ins = c.insert.ensures.grid (own_of lt F G) fill.keys fill.state in
-          let to = c.span-of-to.ensures.string in
-          let from = c.span-of-from.ensures.string in
+          let to = c.span_of-to.ensures.string in
+          let from = c.span_of-from.ensures.string in
           let k : Kept = record { label = x.label; standing = c.standing-rank.result; directive = x.directive } in
           let kept : k ≡ kept_as lt ord F f = λ i. record { label = x.label; standing = rank i; directive = x.directive } in
           subst (λ (H : List (Rule g.row.C.Denot)). Filled lt F (G ++ H) N u) (sym holds)

@@ -8,13 +8,13 @@ pub loop-size-preserved : goal.loop-size-preserved
 loop-size-preserved g c =
     let F = rules g.D.Address.spells g.S.Address.spells g.C.Written.reads c.args.records.now in
     let n = c.loop-size.size in
-    c.finish-length.ensures
+    c.finish_length.ensures
     ∙ ap (λ (M : List Node). finish_length n M F) c.loop-size.invariant
     ∙ ap (λ (m : ℕ). finish_below m c.args.nodes.now F) (sym (add-one n))
 
 pub returns : goal.returns
 returns g c =
     let F = rules g.D.Address.spells g.S.Address.spells g.C.Written.reads c.args.records.now in
-    let w = c.width-in-bits-size-end.ensures in
+    let w = c.width_in_bits-size-end.ensures in
     let e : c.loop-size.size ≡ g.D.Address.width + 1 = omega arith in
     c.loop-size.invariant ∙ ap (λ (m : ℕ). finish_below m c.args.nodes.now F) e

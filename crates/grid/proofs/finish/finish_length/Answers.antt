@@ -21,7 +21,7 @@ loop-place-preserved g c =
     let i = c.loop-place.place-index in
     let x = c.place-item.result in
     let N = c.loop-place.nodes in
-    ap (λ (M : List Node). finish_length n M (rules D S R (drop (i + 1) xs))) c.finish-record.ensures
+    ap (λ (M : List Node). finish_length n M (rules D S R (drop (i + 1) xs))) c.finish_record.ensures
     ∙ sym (finish-append n N (held D S R x) (rules D S R (drop (i + 1) xs)))
     ∙ ap (λ (y : Record g.row.D-Pattern.Denot g.row.S-Pattern.Denot g.row.C-Pattern.Denot). finish_length n N (rules D S R (y ∷ drop (i + 1) xs))) c.place-item.is
     ∙ sym (at_drop_more (λ (ys : List (Record g.row.D-Pattern.Denot g.row.S-Pattern.Denot g.row.C-Pattern.Denot)). finish_length n N (rules D S R ys)) xs i x c.loop-place-test.true)

@@ -22,13 +22,13 @@ loop-i-preserved g c =
     let i = c.loop-i.i in
     let wide = g.met.A.Address.long c.args.path.now.address in
     let here : Trek = record { memory = N; at = c.loop-i.at; beside = c.loop-i.beside; kept = c.loop-i.above } in
-    let x = c.finish-node-above-in-loop-i.ensures in
-    let beside : c.look-if-beside.result ≡ node_if N (next_of c.loop-i.beside c.bit-bit.result) =
-    c.look-if-beside.ensures ∙ ap (node_if N) c.next.ensures in
+    let x = c.finish_node-above-in-loop-i.ensures in
+    let beside : c.look_if-beside.result ≡ node_if N (next_of c.loop-i.beside c.bit-bit.result) =
+    c.look_if-beside.ensures ∙ ap (node_if N) c.next.ensures in
     let rest = drop (i + 1) (spelt g.A.Address.string c.args.path.now) in
     ap (λ (z : Trek). trek z rest)
-    (called N c.finish-node-above-in-loop-i.new.nodes c.child-from-at.result c.look-if-beside.result c.loop-i.above c.finish-node-above-in-loop-i.result x.memory x.kept
-    ∙ ap (λ (z : ℕ × Node). finish_at N z.0 z.1 c.loop-i.above) (λ j. (c.child-from-at.ensures j, beside j)))
+    (called N c.finish_node-above-in-loop-i.new.nodes c.child_from-at.result c.look_if-beside.result c.loop-i.above c.finish_node-above-in-loop-i.result x.memory x.kept
+    ∙ ap (λ (z : ℕ × Node). finish_at N z.0 z.1 c.loop-i.above) (λ j. (c.child_from-at.ensures j, beside j)))
     ∙ sym (bits_more (λ (s : Str). trek here s) t n i c.bit-bit.result (omega arith) c.loop-i-test.true c.bit-bit.ensures)
     ∙ c.loop-i.invariant
 
@@ -36,9 +36,9 @@ pub returns : goal.returns
 returns g c =
     let t = g.A.Address.string c.args.path.now.address in
     let here : Trek = record { memory = c.loop-i.nodes; at = c.loop-i.at; beside = c.loop-i.beside; kept = c.loop-i.above } in
-    let x = c.finish-node-above.ensures in
+    let x = c.finish_node-above.ensures in
     ap (λ (z : Trek). z.memory)
     (sym (bits_all (λ (s : Str). trek here s) t c.args.path.now.length c.loop-i.i (omega (arith, c.loop-i-test.false)))
     ∙ c.loop-i.invariant
     ∙ ap (λ (z : Trek). trek z (spelt g.A.Address.string c.args.path.now))
-    (called c.args.nodes.now c.finish-node-above.new.nodes c.args.top c.args.next-to None c.finish-node-above.result x.memory x.kept))
+    (called c.args.nodes.now c.finish_node-above.new.nodes c.args.top c.args.next_to None c.finish_node-above.result x.memory x.kept))

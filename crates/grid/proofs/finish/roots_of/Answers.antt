@@ -17,7 +17,7 @@ loop-i-preserved g c =
     let last : c.or-last.result ≡ option_or (root_of (node_at N c.loop-i.at)) c.loop-i.last =
     c.or-last.ensures ∙ ap (λ (o : Option ℕ). option_or o c.loop-i.last) (c.source.ensures ∙ ap root_of c.look.ensures) in
     let rest = drop (i + 1) (spelt g.A.Address.string c.args.path.now) in
-    ap (λ (z : ℕ × Option ℕ). roots N z.0 z.1 rest) (λ j. (c.child-from-at.ensures j, last j))
+    ap (λ (z : ℕ × Option ℕ). roots N z.0 z.1 rest) (λ j. (c.child_from-at.ensures j, last j))
     ∙ sym (bits_more (λ (s : Str). roots N c.loop-i.at c.loop-i.last s) t n i c.bit.result (omega arith) c.loop-i-test.true c.bit.ensures)
     ∙ c.loop-i.invariant
 

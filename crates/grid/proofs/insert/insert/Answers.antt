@@ -13,22 +13,22 @@ pub returns : goal.returns
 returns g c =
     let D = spelt g.D.Address.string c.args.to.now in
     let s = spelt g.S.Address.string c.args.from.now in
-    let N4 = c.insert-path-end.new.nodes in
-    let u4 = c.insert-path-end.new.used in
-    let e = c.insert-path-end.result in
-    let safe4 = c.insert-path-end.ensures.safe in
+    let N4 = c.insert_path-end.new.nodes in
+    let u4 = c.insert_path-end.new.used in
+    let e = c.insert_path-end.result in
+    let safe4 = c.insert_path-end.ensures.safe in
     let k = c.keeping.ensures in
     record {
       safe = subst (λ (n : Node). Safe u4 (set N4 e n)) (sym k)
-          (safe_set u4 N4 e (keep_in (node_at N4 e) c.args.kept) safe4 c.insert-path-end.ensures.found
+          (safe_set u4 N4 e (keep_in (node_at N4 e) c.args.kept) safe4 c.insert_path-end.ensures.found
           (links_keep u4 (node_at N4 e) c.args.kept (sound_at u4 N4 e safe4.linked)));
-      most = omega (arith, c.insert-path-end.ensures.most, c.extend-root.ensures.most, c.insert-path-leaf.ensures.most, c.plant.ensures.count);
+      most = omega (arith, c.insert_path-end.ensures.most, c.extend-root.ensures.most, c.insert_path-leaf.ensures.most, c.plant.ensures.count);
       grid = λ own keys st.
           let g1 = c.plant.ensures.grid own keys st in
-          let g2 = c.insert-path-leaf.ensures.grid own g1.more None g1.state g1.here in
+          let g2 = c.insert_path-leaf.ensures.grid own g1.more None g1.state g1.here in
           let g3 = c.extend-root.ensures.grid own g2.more (in_trie None D) g2.state g2.here refl in
-          let g4 = c.insert-path-end.ensures.grid own g3.more (Some D) g3.state g3.here in
+          let g4 = c.insert_path-end.ensures.grid own g3.more (Some D) g3.state g3.here in
           subst (λ (n : Node). Inserted own keys D s c.args.kept (set N4 e n) u4) (sym k)
-          (inserted own keys D s c.args.kept c.plant.new.nodes c.plant.new.used c.insert-path-leaf.new.nodes c.insert-path-leaf.new.used
-          c.insert-path-leaf.result c.extend-root.new.nodes c.extend-root.new.used c.extend-root.result N4 u4 e g1 g2 g3 g4);
+          (inserted own keys D s c.args.kept c.plant.new.nodes c.plant.new.used c.insert_path-leaf.new.nodes c.insert_path-leaf.new.used
+          c.insert_path-leaf.result c.extend-root.new.nodes c.extend-root.new.used c.extend-root.result N4 u4 e g1 g2 g3 g4);
     }

@@ -4,4 +4,4 @@ use Rattle.report.proofs.Splits.{enough}
 use Rattle.report.proofs.items.wanted.Goals as goal
 
 pub returns : goal.returns
-returns c = record { value = c.item-size.ensures; enough = λ b e. ap (λ (n : ℕ). front (take n b)) (c.item-size.ensures ∙ ap needed (sym e)) ∙ enough b }
+returns c = record { value = c.item_size.ensures; enough = λ b e. ap (λ (n : ℕ). front (take n b)) (c.item_size.ensures ∙ ap needed (sym e)) ∙ enough b }

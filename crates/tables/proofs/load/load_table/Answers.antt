@@ -24,5 +24,5 @@ returns g c =
       answer = a.answer;
       accepted = a.accepted.3;
       labels = table_labels (kind g.D.Written.code g.D.Written.size) (kind g.S.Written.code g.S.Written.size) (kind g.C.Written.code g.C.Written.size) (λ _. true) (length c.args.places.now) c.args.bytes.now c.in-ok-count.count a.accepted.3;
-      memory = (a.accepted.2, c.read-records.ensures.read ∙ ap (λ (n : ℕ). decode_records (kind g.D.Written.code g.D.Written.size) (kind g.S.Written.code g.S.Written.size) (kind g.C.Written.code g.C.Written.size) n (drop 4 c.args.bytes.now)) a.accepted.0, c.read-records.ensures.kept);
+      memory = (a.accepted.2, c.read_records.ensures.read ∙ ap (λ (n : ℕ). decode_records (kind g.D.Written.code g.D.Written.size) (kind g.S.Written.code g.S.Written.size) (kind g.C.Written.code g.C.Written.size) n (drop 4 c.args.bytes.now)) a.accepted.0, c.read_records.ensures.kept);
     }

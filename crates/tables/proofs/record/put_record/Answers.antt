@@ -5,11 +5,11 @@ use Rattle.tables.proofs.record.put_record.Goals as goal
 
 pub returns : goal.returns
 returns g c =
-    let so = c.args.at + 3 + c.bytes-of.result in
-    let co = so + 1 + c.bytes-of-2.result in
+    let so = c.args.at + 3 + c.bytes_of.result in
+    let co = so + 1 + c.bytes_of-2.result in
     put_is (kind g.D.Written.code g.D.Written.size) (kind g.S.Written.code g.S.Written.size) (kind g.C.Written.code g.C.Written.size)
     (entry_of g.D.Written.number g.S.Written.number g.C.Written.number c.args.place.now)
-    c.args.buffer.now c.put-number.new.buffer c.put-number-2.new.buffer c.put-pattern.new.buffer c.put-number-3.new.buffer c.put-pattern-2.new.buffer c.put-pattern-3.new.buffer c.put-number-4.new.buffer
-    c.args.at so co (co + c.bytes-of-3.result) c.pack-directive.result
-    (omega (arith, c.requires)) (omega (arith, c.bytes-of.ensures.size)) (omega (arith, c.bytes-of-2.ensures.size)) (omega (arith, c.bytes-of-3.ensures.size)) c.pack-directive.ensures
-    c.put-number.ensures c.put-number-2.ensures c.put-pattern.ensures c.put-number-3.ensures c.put-pattern-2.ensures c.put-pattern-3.ensures c.put-number-4.ensures
+    c.args.buffer.now c.put_number.new.buffer c.put_number-2.new.buffer c.put_pattern.new.buffer c.put_number-3.new.buffer c.put_pattern-2.new.buffer c.put_pattern-3.new.buffer c.put_number-4.new.buffer
+    c.args.at so co (co + c.bytes_of-3.result) c.pack_directive.result
+    (omega (arith, c.requires)) (omega (arith, c.bytes_of.ensures.size)) (omega (arith, c.bytes_of-2.ensures.size)) (omega (arith, c.bytes_of-3.ensures.size)) c.pack_directive.ensures
+    c.put_number.ensures c.put_number-2.ensures c.put_pattern.ensures c.put_number-3.ensures c.put_pattern-2.ensures c.put_pattern-3.ensures c.put_number-4.ensures

@@ -8,11 +8,11 @@ use Rattle.tables.proofs.Places.{put_more}
 use Rattle.tables.proofs.Walk.{record_fits}
 use Rattle.tables.proofs.write.put_records.Goals as goal
 
-pub put-record-requires : goal.put-record-requires
-put-record-requires g c = record_fits (kind g.D.Written.code g.D.Written.size) (kind g.S.Written.code g.S.Written.size) (kind g.C.Written.code g.C.Written.size) c.loop-i.i (length c.args.places.now) c.record-size-size.result _ c.loop-i-test.true c.record-size-size.ensures.size (omega (arith, c.requires.0, c.loop-i.auto.buffer))
+pub put_record-requires : goal.put_record-requires
+put_record-requires g c = record_fits (kind g.D.Written.code g.D.Written.size) (kind g.S.Written.code g.S.Written.size) (kind g.C.Written.code g.C.Written.size) c.loop-i.i (length c.args.places.now) c.record_size-size.result _ c.loop-i-test.true c.record_size-size.ensures.size (omega (arith, c.requires.0, c.loop-i.auto.buffer))
 
 pub loop-i-preserved : goal.loop-i-preserved
-loop-i-preserved g c = put_more (kind g.D.Written.code g.D.Written.size) (kind g.S.Written.code g.S.Written.size) (kind g.C.Written.code g.C.Written.size) (entry_of g.D.Written.number g.S.Written.number g.C.Written.number) c.args.places.now c.args.buffer.now c.loop-i.buffer c.put-record.new.buffer c.loop-i.i c.record-size-size.result c.index-places-i.result c.loop-i-test.true (omega (arith, c.requires.0)) c.record-size-size.ensures.size c.index-places-i.is c.loop-i.invariant c.put-record.ensures
+loop-i-preserved g c = put_more (kind g.D.Written.code g.D.Written.size) (kind g.S.Written.code g.S.Written.size) (kind g.C.Written.code g.C.Written.size) (entry_of g.D.Written.number g.S.Written.number g.C.Written.number) c.args.places.now c.args.buffer.now c.loop-i.buffer c.put_record.new.buffer c.loop-i.i c.record_size-size.result c.index-places-i.result c.loop-i-test.true (omega (arith, c.requires.0)) c.record_size-size.ensures.size c.index-places-i.is c.loop-i.invariant c.put_record.ensures
 
 pub returns : goal.returns
 returns g c =

@@ -11,10 +11,10 @@ pub returns : goal.returns
 returns g c =
     let n = length c.args.places.now in
     let rs = map (entry_of g.D.Written.number g.S.Written.number g.C.Written.number) c.args.places.now in
-    let e : 4 + n * c.record-size.result ≡ table_size (kind g.D.Written.code g.D.Written.size) (kind g.S.Written.code g.S.Written.size) (kind g.C.Written.code g.C.Written.size) n = ap (λ (k : ℕ). 4 + n * k) c.record-size.ensures.size in
+    let e : 4 + n * c.record_size.result ≡ table_size (kind g.D.Written.code g.D.Written.size) (kind g.S.Written.code g.S.Written.size) (kind g.C.Written.code g.C.Written.size) n = ap (λ (k : ℕ). 4 + n * k) c.record_size.ensures.size in
     record {
       answer = ap Ok e ∙ room_ok (kind g.D.Written.code g.D.Written.size) (kind g.S.Written.code g.S.Written.size) (kind g.C.Written.code g.C.Written.size) n (length c.args.buffer.now) c.if-count-gt4095.false (omega (arith, e, c.if-buffer-needed.false));
       memory =
-          written_is (kind g.D.Written.code g.D.Written.size) (kind g.S.Written.code g.S.Written.size) (kind g.C.Written.code g.C.Written.size) rs n c.args.buffer.now c.put-head.new.buffer c.put-records.new.buffer (sym (length-map c.args.places.now (entry_of g.D.Written.number g.S.Written.number g.C.Written.number))) (omega (arith, c.if-buffer-needed.false)) c.put-head.ensures c.put-records.ensures
+          written_is (kind g.D.Written.code g.D.Written.size) (kind g.S.Written.code g.S.Written.size) (kind g.C.Written.code g.C.Written.size) rs n c.args.buffer.now c.put_head.new.buffer c.put_records.new.buffer (sym (length-map c.args.places.now (entry_of g.D.Written.number g.S.Written.number g.C.Written.number))) (omega (arith, c.if-buffer-needed.false)) c.put_head.ensures c.put_records.ensures
           ∙ ap (λ (k : ℕ). encode (kind g.D.Written.code g.D.Written.size) (kind g.S.Written.code g.S.Written.size) (kind g.C.Written.code g.C.Written.size) rs ++ drop k c.args.buffer.now) (sym e);
     }

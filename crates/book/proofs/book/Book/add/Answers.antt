@@ -27,25 +27,25 @@ returns g c =
           room (capacity_of (length c.args.self.now.places.now)) c.args.self.now.used (filter_verdict g.D.Address.string g.S.Address.string g.D.Address.width g.S.Address.width (has c.args.filter.now.label (labels (take c.args.self.now.used c.args.self.now.places.now))) c.args.filter.now) c.in-ok-check.field-0
           (sym c.check.ensures ∙ c.in-ok-check.was)
           (omega (arith, c.capacity.ensures));
-      memory = c.put.ensures ∙ ap (set c.args.self.now.places.now c.args.self.now.used) c.to-record-record.ensures;
+      memory = c.put.ensures ∙ ap (set c.args.self.now.places.now c.args.self.now.used) c.to_record-record.ensures;
       count = refl;
       meaning =
           rules_added g.D.Address.spells g.S.Address.spells g.C.Written.reads g.D.Address.string g.S.Address.string g.D.Written.pattern g.S.Written.pattern g.C.Written.pattern g.met.D.Address.spelt g.met.S.Address.spelt g.met.C.Written.again c.args.self.now.places.now c.put.new.places c.args.self.now.used c.args.filter.now
           (omega (arith, c.capacity.ensures))
-          (c.put.ensures ∙ ap (set c.args.self.now.places.now c.args.self.now.used) c.to-record-record.ensures);
+          (c.put.ensures ∙ ap (set c.args.self.now.places.now c.args.self.now.used) c.to_record-record.ensures);
     }
 
 pub invariant-of-self : goal.invariant-of-self
 invariant-of-self g c =
     let a = accepted c.args.filter.now.label (has c.args.filter.now.label (labels (take c.args.self.now.used c.args.self.now.places.now))) (body_verdict g.D.Address.string g.S.Address.string g.D.Address.width g.S.Address.width c.args.filter.now.destination c.args.filter.now.source c.args.filter.now.directive) c.in-ok-check.field-0 (sym c.check.ensures ∙ c.in-ok-check.was) in
-    let l : c.to-record-record.result.label ≡ c.args.filter.now.label = ap (λ (r : Record g.row.D-Pattern.Denot g.row.S-Pattern.Denot g.row.C-Pattern.Denot). r.label) c.to-record-record.ensures in
-    let m = length-set c.args.self.now.places.now c.args.self.now.used c.to-record-record.result in
+    let l : c.to_record-record.result.label ≡ c.args.filter.now.label = ap (λ (r : Record g.row.D-Pattern.Denot g.row.S-Pattern.Denot g.row.C-Pattern.Denot). r.label) c.to_record-record.ensures in
+    let m = length-set c.args.self.now.places.now c.args.self.now.used c.to_record-record.result in
     let n = ap length c.put.ensures in (
       omega (arith, c.capacity.ensures),
       (
         omega (arith, c.capacity.ensures),
         (
-          still_apart c.args.self.now.places.now c.put.new.places c.args.self.now.used c.to-record-record.result (omega (arith, c.capacity.ensures)) c.put.ensures c.args.self.now.lawful
+          still_apart c.args.self.now.places.now c.put.new.places c.args.self.now.used c.to_record-record.result (omega (arith, c.capacity.ensures)) c.put.ensures c.args.self.now.lawful
               (ap (λ (x : ℕ). eqb x 0) l ∙ a.0)
               (ap (λ (x : ℕ). has x (labels (take c.args.self.now.used c.args.self.now.places.now))) l ∙ a.1),
           tt,

@@ -4,4 +4,4 @@ use Rattle.book.proofs.Found.{found_has}
 use Rattle.book.proofs.book.Book.contains.Goals as goal
 
 pub returns : goal.returns
-returns g c = c.is-some.ensures ∙ found_has c.args.label (labels (take c.args.self.now.used c.args.self.now.places.now)) c.place-of.result c.place-of.ensures
+returns g c = c.is_some.ensures ∙ found_has c.args.label (labels (take c.args.self.now.used c.args.self.now.places.now)) c.place_of.result c.place_of.ensures

@@ -12,13 +12,13 @@ pub invariant-of-self : goal.invariant-of-self
 invariant-of-self g c =
     let m = c.in-Ok.ensures.memory in
     let v = c.in-Ok.ensures.answer (λ n. is_some (g.C.Written.value n)) (λ p. ap is_some (g.met.C.Written.valued p)) in
-    let l : c.in-Ok.count ≤ length c.load-table.new.places = omega (arith, m.0, c.load-table.auto.places) in (
+    let l : c.in-Ok.count ≤ length c.load_table.new.places = omega (arith, m.0, c.load_table.auto.places) in (
       l,
       (
-        count_few (entry_of g.D.Written.number g.S.Written.number g.C.Written.number) (kind g.D.Written.code g.D.Written.size) (kind g.S.Written.code g.S.Written.size) (kind g.C.Written.code g.C.Written.size) (λ n. is_some (g.C.Written.value n)) (length c.args.self.now.places.now) c.args.table.now c.in-Ok.count c.load-table.new.places (sym v) l m.1,
+        count_few (entry_of g.D.Written.number g.S.Written.number g.C.Written.number) (kind g.D.Written.code g.D.Written.size) (kind g.S.Written.code g.S.Written.size) (kind g.C.Written.code g.C.Written.size) (λ n. is_some (g.C.Written.value n)) (length c.args.self.now.places.now) c.args.table.now c.in-Ok.count c.load_table.new.places (sym v) l m.1,
         (
-          ap apart (labels_entries g.D.Written.number g.S.Written.number g.C.Written.number (take c.in-Ok.count c.load-table.new.places))
-              ∙ labels_loaded (entry_of g.D.Written.number g.S.Written.number g.C.Written.number) (kind g.D.Written.code g.D.Written.size) (kind g.S.Written.code g.S.Written.size) (kind g.C.Written.code g.C.Written.size) (λ n. is_some (g.C.Written.value n)) (length c.args.self.now.places.now) c.args.table.now c.in-Ok.count c.load-table.new.places (sym v) l m.1,
+          ap apart (labels_entries g.D.Written.number g.S.Written.number g.C.Written.number (take c.in-Ok.count c.load_table.new.places))
+              ∙ labels_loaded (entry_of g.D.Written.number g.S.Written.number g.C.Written.number) (kind g.D.Written.code g.D.Written.size) (kind g.S.Written.code g.S.Written.size) (kind g.C.Written.code g.C.Written.size) (λ n. is_some (g.C.Written.value n)) (length c.args.self.now.places.now) c.args.table.now c.in-Ok.count c.load_table.new.places (sym v) l m.1,
           tt,
         ),
       ),
@@ -37,7 +37,7 @@ returns-in-Ok g c =
           (λ p. g.met.D.Address.first p ∙ ap (λ (w : ℕ). bits w (g.D.Written.number p)) g.met.D.Address.span)
           (λ p. g.met.S.Address.first p ∙ ap (λ (w : ℕ). bits w (g.S.Written.number p)) g.met.S.Address.span)
           g.met.C.Written.valued
-          (take c.in-Ok.count c.load-table.new.places)
+          (take c.in-Ok.count c.load_table.new.places)
           ∙ ap (rules (bits g.D.Written.size) (bits g.S.Written.size) g.C.Written.value) m.1;
     }
 

@@ -7,18 +7,18 @@ use Rattle.book.proofs.Means.{rules_without}
 use Rattle.filters.specs.Meaning.{rules}
 use Rattle.book.proofs.book.Book.withdraw.Goals as goal
 
-pub take-out-requires : goal.take-out-requires
-take-out-requires g c = (at_inside c.args.self.now.places.now c.args.self.now.used c.in-Some.at c.args.label c.args.self.now.fits c.in-Some.ensures, c.args.self.now.fits)
+pub take_out-requires : goal.take_out-requires
+take_out-requires g c = (at_inside c.args.self.now.places.now c.args.self.now.used c.in-Some.at c.args.label c.args.self.now.fits c.in-Some.ensures, c.args.self.now.fits)
 
 pub returns : goal.returns
 returns g c =
     let f = c.in-Some.ensures in
     record {
       answer = sym (ap withdraw_verdict (has_at c.args.label (labels (take c.args.self.now.used c.args.self.now.places.now)) c.in-Some.at f.inside f.here));
-      memory = memory_is c.args.self.now.places.now c.args.self.now.used c.in-Some.at c.args.label c.args.self.now.fits f c.take-out.new.places c.take-out.ensures.memory;
-      count = c.take-out.ensures.count;
+      memory = memory_is c.args.self.now.places.now c.args.self.now.used c.in-Some.at c.args.label c.args.self.now.fits f c.take_out.new.places c.take_out.ensures.memory;
+      count = c.take_out.ensures.count;
       meaning =
-          ap (rules g.D.Address.spells g.S.Address.spells g.C.Written.reads) (used_are c.args.self.now.places.now c.args.self.now.used c.in-Some.at c.args.label c.args.self.now.fits f c.take-out.new.places c.take-out.result c.take-out.ensures.count c.take-out.ensures.memory)
+          ap (rules g.D.Address.spells g.S.Address.spells g.C.Written.reads) (used_are c.args.self.now.places.now c.args.self.now.used c.in-Some.at c.args.label c.args.self.now.fits f c.take_out.new.places c.take_out.result c.take_out.ensures.count c.take_out.ensures.memory)
           ∙ rules_without g.D.Address.spells g.S.Address.spells g.C.Written.reads c.args.label (take c.args.self.now.used c.args.self.now.places.now) c.args.self.now.lawful;
     }
 
@@ -30,7 +30,7 @@ invariant-of-self g c =
       (
         omega arith,
         (
-          left_apart c.args.self.now.places.now c.args.self.now.used c.in-Some.at c.args.label c.args.self.now.fits f c.take-out.new.places c.take-out.result c.take-out.ensures.count c.take-out.ensures.memory c.args.self.now.lawful,
+          left_apart c.args.self.now.places.now c.args.self.now.used c.in-Some.at c.args.label c.args.self.now.fits f c.take_out.new.places c.take_out.result c.take_out.ensures.count c.take_out.ensures.memory c.args.self.now.lawful,
           tt,
         ),
       ),

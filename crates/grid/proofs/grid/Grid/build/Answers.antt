@@ -22,16 +22,16 @@ returns g c =
     let t : Bool = too_few (length c.args.self.now.nodes.now) c.args.book.now.used g.D.Address.width g.S.Address.width in
     let l : length c.records.result.now ≡ c.args.book.now.used = ap length c.records.ensures ∙ length-take-le c.args.book.now.used c.args.book.now.places.now c.args.book.now.fits in
     let u : too_few (length c.args.self.now.nodes.now) (length c.records.result.now) g.D.Address.width g.S.Address.width ≡ t = ap (λ (n : ℕ). too_few (length c.args.self.now.nodes.now) n g.D.Address.width g.S.Address.width) l in
-    let e : c.build-from.result ≡ cond t (Err Places) (Ok (nodes F)) =
-    c.build-from.ensures.answer ∙ (λ i. cond {A = Result ℕ BuildFault} (u i) (Err Places) (Ok (nodes (f i))))
+    let e : c.build_from.result ≡ cond t (Err Places) (Ok (nodes F)) =
+    c.build_from.ensures.answer ∙ (λ i. cond {A = Result ℕ BuildFault} (u i) (Err Places) (Ok (nodes (f i))))
     in
     record {
       answer = e;
-      count = count_by t (nodes F) c.args.self.now.used c.build-from.new.self.used c.build-from.result e (c.build-from.ensures.count ∙ (λ i. cond {A = ℕ} (u i) c.args.self.now.used (nodes (f i))));
-      places = c.build-from.ensures.places;
+      count = count_by t (nodes F) c.args.self.now.used c.build_from.new.self.used c.build_from.result e (c.build_from.ensures.count ∙ (λ i. cond {A = ℕ} (u i) c.args.self.now.used (nodes (f i))));
+      places = c.build_from.ensures.places;
       memory =
-          memory_by t (nodes F) c.build-from.result e (λ z. c.build-from.ensures.same (u ∙ z))
+          memory_by t (nodes F) c.build_from.result e (λ z. c.build_from.ensures.same (u ∙ z))
           (λ z.
-          subst (λ (G : List (Rule g.row.C.Denot)). Derived (better g.C.Cost.order) G c.build-from.new.self.nodes.now c.build-from.new.self.used) f
-          (c.build-from.ensures.grid (u ∙ z) (subst (λ (G : List (Rule g.row.C.Denot)). Apart G) (sym f) (rules_apart g.D.Address.spells g.S.Address.spells g.C.Written.reads xs c.args.book.now.lawful))));
+          subst (λ (G : List (Rule g.row.C.Denot)). Derived (better g.C.Cost.order) G c.build_from.new.self.nodes.now c.build_from.new.self.used) f
+          (c.build_from.ensures.grid (u ∙ z) (subst (λ (G : List (Rule g.row.C.Denot)). Apart G) (sym f) (rules_apart g.D.Address.spells g.S.Address.spells g.C.Written.reads xs c.args.book.now.lawful))));
     }

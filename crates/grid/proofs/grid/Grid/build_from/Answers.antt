@@ -13,7 +13,7 @@ returns-then-self-needed g c =
     let m = length c.args.records.now in
     let F = rules g.D.Address.spells g.S.Address.spells g.C.Written.reads c.args.records.now in
     let few : too_few n m g.D.Address.width g.S.Address.width ≡ true =
-    lt-ltb n (needed m g.D.Address.width g.S.Address.width) (omega (arith, c.if-self-needed.true, c.places-needed-needed.ensures)) in
+    lt-ltb n (needed m g.D.Address.width g.S.Address.width) (omega (arith, c.if-self-needed.true, c.places_needed-needed.ensures)) in
     record {
       answer = sym (cond-true {A = Result ℕ BuildFault} (too_few n m g.D.Address.width g.S.Address.width) (Err Places) (Ok (nodes F)) few);
       count = sym (cond-true (too_few n m g.D.Address.width g.S.Address.width) c.args.self.now.used (nodes F) few);

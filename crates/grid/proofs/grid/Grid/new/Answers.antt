@@ -9,13 +9,13 @@ use Rattle.grid.proofs.grid.Grid.new.Goals as goal
 pub invariant-of-result : goal.invariant-of-result
 invariant-of-result g c =
     let n = length c.args.nodes.now in
-    let e = wiped_all c.args.nodes.now c.empty-first.new.nodes c.empty-first.ensures in
+    let e = wiped_all c.args.nodes.now c.empty_first.new.nodes c.empty_first.ensures in
     (search rules, (ap (sound 0) e ∙ sound_wiped 0 n, (ap bare e ∙ bare_wiped n, tt)))
 
 pub returns : goal.returns
 returns g c =
     let n = length c.args.nodes.now in
-    let e = wiped_all c.args.nodes.now c.empty-first.new.nodes c.empty-first.ensures in
+    let e = wiped_all c.args.nodes.now c.empty_first.new.nodes c.empty_first.ensures in
     record {
       count = refl;
       memory = e;
