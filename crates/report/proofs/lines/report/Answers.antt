@@ -11,9 +11,9 @@ returns-in-default c =
 
 pub returns-then-not-goes_on : goal.returns-then-not-goes_on
 returns-then-not-goes_on c =
-    let pushed = c.in-ok-push_str.ensures.bytes in
+    let pushed = c.in_ok-push_str.ensures.bytes in
     let value = c.as_str.ensures.value in
-    let made = c.in-ok-shown.ensures.ok in
+    let made = c.in_ok-shown.ensures.ok in
     let done = complete (65536 - c.loop-read.read) (65536 - (c.loop-read.read + 1)) c.loop-read.rest.now (said c.in-Some.line) (string_bytes c.loop-read.text) _ (omega arith)
     (ap told_of (sym c.split.ensures.item) ∙ sym c.in-Some.ensures)
     (ap goes_on (sym c.split.ensures.item) ∙ sym c.if-not-goes_on.ensures)
@@ -22,9 +22,9 @@ returns-then-not-goes_on c =
 
 pub loop-read-preserved : goal.loop-read-preserved
 loop-read-preserved c =
-    let pushed = c.in-ok-push_str.ensures.bytes in
+    let pushed = c.in_ok-push_str.ensures.bytes in
     let value = c.as_str.ensures.value in
-    let made = c.in-ok-shown.ensures.ok in
+    let made = c.in_ok-shown.ensures.ok in
     let left = c.split.ensures.rest in
     let more = another (65536 - c.loop-read.read) (65536 - (c.loop-read.read + 1)) c.loop-read.rest.now (said c.in-Some.line) (string_bytes c.loop-read.text) _ (omega arith)
     (ap told_of (sym c.split.ensures.item) ∙ sym c.in-Some.ensures)

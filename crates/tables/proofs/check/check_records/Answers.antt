@@ -15,19 +15,19 @@ loop-i-init g c = (λ pass tells. refl, refl)
 pub loop-i-preserved : goal.loop-i-preserved
 loop-i-preserved g c = (
   λ pass tells.
-      sym (records_more (kind g.D.Written.code g.D.Written.size) (kind g.S.Written.code g.S.Written.size) (kind g.C.Written.code g.C.Written.size) pass c.args.bytes.now c.args.count c.loop-i.i c.loop-i-test.true ∙ onward_ok _ _ _ _ _ (c.in-ok-check_at.ensures.answer pass tells))
+      sym (records_more (kind g.D.Written.code g.D.Written.size) (kind g.S.Written.code g.S.Written.size) (kind g.C.Written.code g.C.Written.size) pass c.args.bytes.now c.args.count c.loop-i.i c.loop-i-test.true ∙ onward_ok _ _ _ _ _ (c.in_ok-check_at.ensures.answer pass tells))
       ∙ c.loop-i.invariant.0 pass tells,
-  sym (records_more (kind g.D.Written.code g.D.Written.size) (kind g.S.Written.code g.S.Written.size) (kind g.C.Written.code g.C.Written.size) (λ _. true) c.args.bytes.now c.args.count c.loop-i.i c.loop-i-test.true ∙ onward_passed _ _ _ c.in-ok-check_at.ensures.passed)
+  sym (records_more (kind g.D.Written.code g.D.Written.size) (kind g.S.Written.code g.S.Written.size) (kind g.C.Written.code g.C.Written.size) (λ _. true) c.args.bytes.now c.args.count c.loop-i.i c.loop-i-test.true ∙ onward_passed _ _ _ c.in_ok-check_at.ensures.passed)
       ∙ c.loop-i.invariant.1,
 )
 
-pub returns-in-err-check_at : goal.returns-in-err-check_at
-returns-in-err-check_at g c =
+pub returns-in_err-check_at : goal.returns-in_err-check_at
+returns-in_err-check_at g c =
     let p = err_from_is_err_and c.from-residual.result c.from-residual.ensures.1 in
     record {
       answer = λ pass tells.
           p.1 ∙ ap Err p.2
-          ∙ onward_err (c.loop-i.i + 1) _ _ _ (c.in-err-check_at.ensures.answer pass tells)
+          ∙ onward_err (c.loop-i.i + 1) _ _ _ (c.in_err-check_at.ensures.answer pass tells)
           ∙ sym (records_more (kind g.D.Written.code g.D.Written.size) (kind g.S.Written.code g.S.Written.size) (kind g.C.Written.code g.C.Written.size) pass c.args.bytes.now c.args.count c.loop-i.i c.loop-i-test.true)
           ∙ c.loop-i.invariant.0 pass tells;
       passed = subst (λ (r : Result ℕ LoadFault). IfOk r (λ n. (n ≡ c.args.count) × (entries_verdict (kind g.D.Written.code g.D.Written.size) (kind g.S.Written.code g.S.Written.size) (kind g.C.Written.code g.C.Written.size) (λ _. true) [] (decode_records (kind g.D.Written.code g.D.Written.size) (kind g.S.Written.code g.S.Written.size) (kind g.C.Written.code g.C.Written.size) c.args.count (drop 4 c.args.bytes.now)) ≡ Ok c.args.count))) (sym p.1) tt;

@@ -7,7 +7,7 @@ pub loop-i-init : goal.loop-i-init
 loop-i-init c = (sym word_none, omega arith)
 
 pub loop-i-preserved : goal.loop-i-preserved
-loop-i-preserved c = read_more c.args.bytes.now c.args.at c.loop-i.i c.loop-i.n (omega arith) (omega arith) c.loop-i.invariant.0 c.loop-i.invariant.1 (c.type-inv.bytes _).fits
+loop-i-preserved c = read_more c.args.bytes.now c.args.at c.loop-i.i c.loop-i.n (omega arith) (omega arith) c.loop-i.invariant.0 c.loop-i.invariant.1 (c.type_inv.bytes _).fits
 
 pub returns : goal.returns
 returns c =
