@@ -11,10 +11,10 @@ use Rattle.grid.specs.Build.{Filled, Inserted, own_of}
 use Rattle.grid.proofs.Fills.{count_few, filled_more, kept_as, read_some, read_none}
 use Rattle.grid.proofs.fill.insert_record.Goals as goal
 
-pub returns-in-default : goal.returns-in-default
-returns-in-default g c =
+pub returns-in_default : goal.returns-in_default
+returns-in_default g c =
     let F = rules g.D.Address.spells g.S.Address.spells g.C.Written.reads c.args.records.now in
-    let none = read_none (g.C.Written.reads c.args.place.now.cost) Unlawful c.in-default.field-0 c.in-default.ensures in
+    let none = read_none (g.C.Written.reads c.args.place.now.cost) Unlawful c.in_default.field-0 c.in_default.ensures in
     record {
       safe = c.requires.safe;
       most = omega arith;

@@ -4,9 +4,9 @@ use Rattle.report.specs.Lines.{lines, said, text, told_of}
 use Rattle.report.proofs.Texts.{lines_none, lines_end, complete, another}
 use Rattle.report.proofs.lines.report.Goals as goal
 
-pub returns-in-default : goal.returns-in-default
-returns-in-default c =
-    let end = lines_end (65536 - c.loop-read.read) c.loop-read.rest.now (ap told_of (sym c.split.ensures.item) ∙ sym c.in-default.ensures) in
+pub returns-in_default : goal.returns-in_default
+returns-in_default c =
+    let end = lines_end (65536 - c.loop-read.read) c.loop-read.rest.now (ap told_of (sym c.split.ensures.item) ∙ sym c.in_default.ensures) in
     sym (append-nil _) ∙ ap (λ (l : List ℕ). string_bytes c.loop-read.text ++ l) (sym end) ∙ c.loop-read.invariant
 
 pub returns-then-not-goes_on : goal.returns-then-not-goes_on

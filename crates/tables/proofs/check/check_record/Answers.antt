@@ -9,7 +9,7 @@ use Rattle.tables.proofs.check.check_record.Goals as goal
 
 pub returns-in_err-check_prefixes : goal.returns-in_err-check_prefixes
 returns-in_err-check_prefixes g c =
-    let p = err_from_is_err_and c.from-residual-in_err-check_prefixes.result c.from-residual-in_err-check_prefixes.ensures.1 in
+    let p = err_from_is_err_and c.from_residual-in_err-check_prefixes.result c.from_residual-in_err-check_prefixes.ensures.1 in
     record {
       answer = λ pass tells.
           rest_refuses c.args.used _ _ _ _ p.1 p.2 c.in_err-check_prefixes.ensures

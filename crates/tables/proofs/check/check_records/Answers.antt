@@ -23,7 +23,7 @@ loop-i-preserved g c = (
 
 pub returns-in_err-check_at : goal.returns-in_err-check_at
 returns-in_err-check_at g c =
-    let p = err_from_is_err_and c.from-residual.result c.from-residual.ensures.1 in
+    let p = err_from_is_err_and c.from_residual.result c.from_residual.ensures.1 in
     record {
       answer = λ pass tells.
           p.1 ∙ ap Err p.2

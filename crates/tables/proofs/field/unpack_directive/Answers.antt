@@ -11,5 +11,5 @@ returns-in-1 c = is_line _ _ _ c.in-1.is c.if-rate-eq0-2.true ∙ sym (unpack_th
 pub returns-in-2 : goal.returns-in-2
 returns-in-2 c = is_reserve _ _ _ c.in-2.is ∙ sym (unpack_three c.args.from c.ranges.from.fits)
 
-pub returns-in-default·3 : goal.returns-in-default·3
-returns-in-default·3 c = is_broken _ _ _ c.in-1.is c.if-rate-eq0-2.false ∙ sym (unpack_three c.args.from c.ranges.from.fits)
+pub returns-in_default-3 : goal.returns-in_default-3
+returns-in_default-3 c = is_broken _ _ _ c.in-1.is c.if-rate-eq0-2.false ∙ sym (unpack_three c.args.from c.ranges.from.fits)

@@ -9,7 +9,7 @@ use Rattle.tables.proofs.load.load_table.Goals as goal
 
 pub returns-in_err-count : goal.returns-in_err-count
 returns-in_err-count g c =
-    let p = err_from_is_err_and c.from-residual.result c.from-residual.ensures.1 in
+    let p = err_from_is_err_and c.from_residual.result c.from_residual.ensures.1 in
     record {
       answer = λ pass tells. p.1 ∙ ap Err p.2 ∙ c.in_err-count.ensures.answer pass tells;
       accepted = subst (λ (r : Result ℕ LoadFault). IfOk r (λ n. table_verdict (kind g.D.Written.code g.D.Written.size) (kind g.S.Written.code g.S.Written.size) (kind g.C.Written.code g.C.Written.size) (λ _. true) (length c.args.places.now) c.args.bytes.now ≡ Ok n)) (sym p.1) tt;

@@ -10,7 +10,7 @@ use Rattle.tables.proofs.turn.load_and_write.Goals as goal
 
 pub returns-in_err-count : goal.returns-in_err-count
 returns-in_err-count g c =
-    let p = err_from_is_err_and c.from-residual.result c.from-residual.ensures.1 in
+    let p = err_from_is_err_and c.from_residual.result c.from_residual.ensures.1 in
     let e = p.1 ∙ ap Err p.2 in
     record {
       answer = λ pass tells. e ∙ turn_back _ _ _ (c.in_err-count.ensures.answer pass tells);
@@ -20,7 +20,7 @@ returns-in_err-count g c =
 
 pub returns-in_err-length : goal.returns-in_err-length
 returns-in_err-length g c =
-    let p = err_from_is_err_and c.from-residual-in_err-length.result c.from-residual-in_err-length.ensures.1 in
+    let p = err_from_is_err_and c.from_residual-in_err-length.result c.from_residual-in_err-length.ensures.1 in
     let e = p.1 ∙ ap Err p.2 in
     let m = c.in_ok-count.ensures.memory in
     let le : c.in_ok-count.count ≤ length c.load_table.new.places = omega (arith, m.0, c.load_table.auto.places) in

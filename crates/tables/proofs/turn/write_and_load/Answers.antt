@@ -13,7 +13,7 @@ use Rattle.tables.proofs.turn.write_and_load.Goals as goal
 
 pub returns-in_err-length : goal.returns-in_err-length
 returns-in_err-length g c =
-    let p = err_from_is_err_and c.from-residual.result c.from-residual.ensures.1 in
+    let p = err_from_is_err_and c.from_residual.result c.from_residual.ensures.1 in
     let f = p.1 ∙ ap Err p.2 in
     let w = c.in_err-length.ensures in
     record {
@@ -25,7 +25,7 @@ returns-in_err-length g c =
 
 pub returns-in_err-count : goal.returns-in_err-count
 returns-in_err-count g c =
-    let r = err_from_is_err_and c.from-residual-in_err-count.result c.from-residual-in_err-count.ensures.1 in
+    let r = err_from_is_err_and c.from_residual-in_err-count.result c.from_residual-in_err-count.ensures.1 in
     let f = r.1 ∙ ap Err r.2 in
     let w = c.in_ok-length.ensures in
     let e = part_is c.in_ok-length.length (encode (kind g.D.Written.code g.D.Written.size) (kind g.S.Written.code g.S.Written.size) (kind g.C.Written.code g.C.Written.size) (map (entry_of g.D.Written.number g.S.Written.number g.C.Written.number) c.args.places.now)) c.args.buffer.now c.write_table.new.buffer w.memory (wrote_length (kind g.D.Written.code g.D.Written.size) (kind g.S.Written.code g.S.Written.size) (kind g.C.Written.code g.C.Written.size) (entry_of g.D.Written.number g.S.Written.number g.C.Written.number) c.args.places.now (length c.args.buffer.now) c.in_ok-length.length w.answer) in
@@ -55,7 +55,7 @@ returns g c =
           let m : map (entry_of g.D.Written.number g.S.Written.number g.C.Written.number) c.args.places.now ≡ map (filed g.D.Written.pattern g.S.Written.pattern g.C.Written.pattern g.D.Written.number g.S.Written.number g.C.Written.number) fs = ap (map (entry_of g.D.Written.number g.S.Written.number g.C.Written.number)) p ∙ map_two (entry_of g.D.Written.number g.S.Written.number g.C.Written.number) (record_of g.D.Written.pattern g.S.Written.pattern g.C.Written.pattern) fs in
           let v : table_verdict (kind g.D.Written.code g.D.Written.size) (kind g.S.Written.code g.S.Written.size) (kind g.C.Written.code g.C.Written.size) pass (length c.args.into.now) (take (c.in_ok-length.length - 0) c.write_table.new.buffer) ≡ Ok (length fs) = ap (table_verdict (kind g.D.Written.code g.D.Written.size) (kind g.S.Written.code g.S.Written.size) (kind g.C.Written.code g.C.Written.size) pass (length c.args.into.now)) (e ∙ ap (encode (kind g.D.Written.code g.D.Written.size) (kind g.S.Written.code g.S.Written.size) (kind g.C.Written.code g.C.Written.size)) m) ∙ b.0 in (
             ok_same c.in_ok-count.count (length fs) (l.answer pass tells ∙ v) ∙ sym (ap length p ∙ length-map fs (record_of g.D.Written.pattern g.S.Written.pattern g.C.Written.pattern)),
-            places_same g.D.Written.number g.S.Written.number g.C.Written.number (λ a b q. g.met.Pattern.Plain-1.same a b (sym (g.met.D.Written.plain a) ∙ q ∙ g.met.D.Written.plain b)) (λ a b q. g.met.Pattern.Plain-2.same a b (sym (g.met.S.Written.plain a) ∙ q ∙ g.met.S.Written.plain b)) (λ a b q. g.met.Pattern.Plain-3.same a b (sym (g.met.C.Written.plain a) ∙ q ∙ g.met.C.Written.plain b)) (take c.in_ok-count.count c.load_table.new.places) c.args.places.now (l.memory.1 ∙ ap (decode (kind g.D.Written.code g.D.Written.size) (kind g.S.Written.code g.S.Written.size) (kind g.C.Written.code g.C.Written.size)) (e ∙ ap (encode (kind g.D.Written.code g.D.Written.size) (kind g.S.Written.code g.S.Written.size) (kind g.C.Written.code g.C.Written.size)) m) ∙ b.1 ∙ sym m),
+            places_same g.D.Written.number g.S.Written.number g.C.Written.number (λ a b q. g.met.D.Pattern.Plain.same a b (sym (g.met.D.Written.plain a) ∙ q ∙ g.met.D.Written.plain b)) (λ a b q. g.met.S.Pattern.Plain.same a b (sym (g.met.S.Written.plain a) ∙ q ∙ g.met.S.Written.plain b)) (λ a b q. g.met.C.Pattern.Plain.same a b (sym (g.met.C.Written.plain a) ∙ q ∙ g.met.C.Written.plain b)) (take c.in_ok-count.count c.load_table.new.places) c.args.places.now (l.memory.1 ∙ ap (decode (kind g.D.Written.code g.D.Written.size) (kind g.S.Written.code g.S.Written.size) (kind g.C.Written.code g.C.Written.size)) (e ∙ ap (encode (kind g.D.Written.code g.D.Written.size) (kind g.S.Written.code g.S.Written.size) (kind g.C.Written.code g.C.Written.size)) m) ∙ b.1 ∙ sym m),
             l.memory.2,
           );
     }

@@ -22,7 +22,7 @@ returns-in_err-nodes g c =
     let built = c.in_err-nodes.ensures in
     let n = c.in_ok-filters.filters in
     let L : Loads K bytes (Ok n) b b' = record { answer = loaded.answer; memory = loaded.memory; count = loaded.count } in
-    let p = err_from_is_err_and c.from-residual-in_err-nodes.result c.from-residual-in_err-nodes.ensures.1 in
+    let p = err_from_is_err_and c.from_residual-in_err-nodes.result c.from_residual-in_err-nodes.ensures.1 in
     let B : Builds K (Err c.in_err-nodes.field-0.0) b' w w' = record { answer = built.answer; memory = built.memory; count = built.count } in
     record {
       leaves = subst (λ (z : Result Installed InstallFault). Installs K bytes z b b' w w') (sym (p.1 ∙ ap Err p.2)) (load_and_build K bytes b b' w w' n L loaded.meaning (Err c.in_err-nodes.field-0.0) B);
