@@ -5,7 +5,7 @@ use Rattle.filters.specs.declared.filter.Record.{Record}
 use Rattle.filters.specs.Rules.{Rule, better}
 use Rattle.filters.specs.Meaning.{rules}
 use Rattle.filters.proofs.Bests.{ranks}
-use Rattle.tries.specs.Shape.{goal as needed}
+use Rattle.tries.specs.Shape.{need as needed}
 use Rattle.grid.specs.Build.{Filled}
 use Rattle.grid.proofs.Fills.{filled_none, rules_more, rules_front, rules_item}
 use Rattle.grid.proofs.Safety.{safe_none}

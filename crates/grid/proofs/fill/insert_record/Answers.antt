@@ -1,4 +1,4 @@
-use Rattle.std.proofs.Common.{◌≡◌, ltb, List, [], ◌∷◌, ◌++◌, Option, sym, refl, ap, ◌∙◌, subst, inl, arith, rules}
+use Rattle.std.proofs.Common.{◌≡◌, ltb, List, [], ◌∷◌, ◌++◌, Option, sym, refl, ap, ◌∙◌, subst, inl, arith, rules as goal_rules}
 use Rattle.std.proofs.lemmas.List.{append-nil}
 use Rattle.kinds.specs.declared.written.PatternFault.TheVariants.{Unlawful}
 use Rattle.kinds.specs.Strings.{Str}
@@ -23,13 +23,13 @@ returns-in_default g c =
           (sym (ap (λ (o : Option g.row.C.Denot). G ++ held_at g.D.Address.spells g.S.Address.spells g.C.Written.reads c.args.place.now o) none ∙ append-nil G)) fill;
     }
 
-pub overflow-cast-kept : goal.overflow-cast-kept
-overflow-cast-kept g c =
+pub overflow_cast-kept : goal.overflow_cast-kept
+overflow_cast-kept g c =
     let few = count_few g.D.Address.spells g.S.Address.spells g.C.Written.reads
     (λ (r : Rule g.row.C.Denot). by_cost (g.C.Cost.order r.cost c.in-Ok.cost) (ltb r.label c.args.place.now.label)) c.args.records.now in
     let is = c.standing-rank.ensures in
     let h = c.requires.few in
-    search rules
+    search goal_rules
 
 pub returns : goal.returns
 returns g c =

@@ -35,20 +35,17 @@ returns g c =
           (c.put.ensures ∙ ap (set c.args.self.now.places.now c.args.self.now.used) c.to_record-record.ensures);
     }
 
-pub invariant-of-self : goal.invariant-of-self
-invariant-of-self g c =
+pub invariant_of-self : goal.invariant_of-self
+invariant_of-self g c =
     let a = accepted c.args.filter.now.label (has c.args.filter.now.label (labels (take c.args.self.now.used c.args.self.now.places.now))) (body_verdict g.D.Address.string g.S.Address.string g.D.Address.width g.S.Address.width c.args.filter.now.destination c.args.filter.now.source c.args.filter.now.directive) c.in_ok-check.field-0 (sym c.check.ensures ∙ c.in_ok-check.was) in
     let l : c.to_record-record.result.label ≡ c.args.filter.now.label = ap (λ (r : Record g.row.D-Pattern.Denot g.row.S-Pattern.Denot g.row.C-Pattern.Denot). r.label) c.to_record-record.ensures in
     let m = length-set c.args.self.now.places.now c.args.self.now.used c.to_record-record.result in
-    let n = ap length c.put.ensures in (
-      omega (arith, c.capacity.ensures),
-      (
-        omega (arith, c.capacity.ensures),
-        (
+    let n = ap length c.put.ensures in
+    record {
+      fits = omega (arith, c.capacity.ensures);
+      few = omega (arith, c.capacity.ensures);
+      lawful =
           still_apart c.args.self.now.places.now c.put.new.places c.args.self.now.used c.to_record-record.result (omega (arith, c.capacity.ensures)) c.put.ensures c.args.self.now.lawful
-              (ap (λ (x : ℕ). eqb x 0) l ∙ a.0)
-              (ap (λ (x : ℕ). has x (labels (take c.args.self.now.used c.args.self.now.places.now))) l ∙ a.1),
-          tt,
-        ),
-      ),
-    )
+          (ap (λ (x : ℕ). eqb x 0) l ∙ a.0)
+          (ap (λ (x : ℕ). has x (labels (take c.args.self.now.used c.args.self.now.places.now))) l ∙ a.1);
+    }

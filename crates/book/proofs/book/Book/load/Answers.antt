@@ -8,21 +8,19 @@ use Rattle.book.specs.Labels.{labels, apart}
 use Rattle.book.proofs.Loading.{capacity_same, labels_entries, rules_entries, count_few, labels_loaded}
 use Rattle.book.proofs.book.Book.load.Goals as goal
 
-pub invariant-of-self : goal.invariant-of-self
-invariant-of-self g c =
+pub invariant_of-self : goal.invariant_of-self
+invariant_of-self g c =
     let m = c.in-Ok.ensures.memory in
     let v = c.in-Ok.ensures.answer (λ n. is_some (g.C.Written.value n)) (λ p. ap is_some (g.met.C.Written.valued p)) in
-    let l : c.in-Ok.count ≤ length c.load_table.new.places = omega (arith, m.0, c.load_table.auto.places) in (
-      l,
-      (
-        count_few (entry_of g.D.Written.number g.S.Written.number g.C.Written.number) (kind g.D.Written.code g.D.Written.size) (kind g.S.Written.code g.S.Written.size) (kind g.C.Written.code g.C.Written.size) (λ n. is_some (g.C.Written.value n)) (length c.args.self.now.places.now) c.args.table.now c.in-Ok.count c.load_table.new.places (sym v) l m.1,
-        (
+    let l : c.in-Ok.count ≤ length c.load_table.new.places = omega (arith, m.0, c.load_table.auto.places) in
+    record {
+      fits = l;
+      few =
+          count_few (entry_of g.D.Written.number g.S.Written.number g.C.Written.number) (kind g.D.Written.code g.D.Written.size) (kind g.S.Written.code g.S.Written.size) (kind g.C.Written.code g.C.Written.size) (λ n. is_some (g.C.Written.value n)) (length c.args.self.now.places.now) c.args.table.now c.in-Ok.count c.load_table.new.places (sym v) l m.1;
+      lawful =
           ap apart (labels_entries g.D.Written.number g.S.Written.number g.C.Written.number (take c.in-Ok.count c.load_table.new.places))
-              ∙ labels_loaded (entry_of g.D.Written.number g.S.Written.number g.C.Written.number) (kind g.D.Written.code g.D.Written.size) (kind g.S.Written.code g.S.Written.size) (kind g.C.Written.code g.C.Written.size) (λ n. is_some (g.C.Written.value n)) (length c.args.self.now.places.now) c.args.table.now c.in-Ok.count c.load_table.new.places (sym v) l m.1,
-          tt,
-        ),
-      ),
-    )
+          ∙ labels_loaded (entry_of g.D.Written.number g.S.Written.number g.C.Written.number) (kind g.D.Written.code g.D.Written.size) (kind g.S.Written.code g.S.Written.size) (kind g.C.Written.code g.C.Written.size) (λ n. is_some (g.C.Written.value n)) (length c.args.self.now.places.now) c.args.table.now c.in-Ok.count c.load_table.new.places (sym v) l m.1;
+    }
 
 pub returns-in-Ok : goal.returns-in-Ok
 returns-in-Ok g c =

@@ -22,16 +22,13 @@ returns g c =
           ∙ rules_without g.D.Address.spells g.S.Address.spells g.C.Written.reads c.args.label (take c.args.self.now.used c.args.self.now.places.now) c.args.self.now.lawful;
     }
 
-pub invariant-of-self : goal.invariant-of-self
-invariant-of-self g c =
+pub invariant_of-self : goal.invariant_of-self
+invariant_of-self g c =
     let f = c.in-Some.ensures in
-    let i = at_inside c.args.self.now.places.now c.args.self.now.used c.in-Some.at c.args.label c.args.self.now.fits f in (
-      omega arith,
-      (
-        omega arith,
-        (
-          left_apart c.args.self.now.places.now c.args.self.now.used c.in-Some.at c.args.label c.args.self.now.fits f c.take_out.new.places c.take_out.result c.take_out.ensures.count c.take_out.ensures.memory c.args.self.now.lawful,
-          tt,
-        ),
-      ),
-    )
+    let i = at_inside c.args.self.now.places.now c.args.self.now.used c.in-Some.at c.args.label c.args.self.now.fits f in
+    record {
+      fits = omega arith;
+      few = omega arith;
+      lawful =
+          left_apart c.args.self.now.places.now c.args.self.now.used c.in-Some.at c.args.label c.args.self.now.fits f c.take_out.new.places c.take_out.result c.take_out.ensures.count c.take_out.ensures.memory c.args.self.now.lawful;
+    }

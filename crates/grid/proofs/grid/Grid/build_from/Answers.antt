@@ -1,7 +1,7 @@
 use Rattle.std.proofs.Common.{◌≡◌, ℕ, true, length, Ok, Err, Result, sym, refl, arith}
 use Rattle.std.proofs.lemmas.Bool.{both_ways, cond-true, lt-ltb}
 use Rattle.filters.specs.Meaning.{rules}
-use Rattle.tries.specs.Shape.{goal as needed, nodes}
+use Rattle.tries.specs.Shape.{need as needed, nodes}
 use Rattle.grid.specs.declared.build.BuildFault.{BuildFault}
 use Rattle.grid.specs.declared.build.BuildFault.TheVariants.{Places}
 use Rattle.grid.specs.Refusals.{too_few}

@@ -6,11 +6,11 @@ use Rattle.grid.specs.Derived.{Derived}
 use Rattle.grid.proofs.Wiped.{wiped_all, sound_wiped, bare_wiped, derived_wiped}
 use Rattle.grid.proofs.grid.Grid.new.Goals as goal
 
-pub invariant-of-result : goal.invariant-of-result
-invariant-of-result g c =
+pub invariant_of-result : goal.invariant_of-result
+invariant_of-result g c =
     let n = length c.args.nodes.now in
     let e = wiped_all c.args.nodes.now c.empty_first.new.nodes c.empty_first.ensures in
-    (search rules, (ap (sound 0) e ∙ sound_wiped 0 n, (ap bare e ∙ bare_wiped n, tt)))
+    record { fits = search rules; linked = ap (sound 0) e ∙ sound_wiped 0 n; rest = ap bare e ∙ bare_wiped n }
 
 pub returns : goal.returns
 returns g c =
