@@ -1,7 +1,7 @@
 -- A book after a filter was put behind the last.
-use Rattle.std.proofs.Common.{◌≡◌, ℕ, suc, ◌+◌, ◌<◌, ◌≤◌, Bool, true, false, cond, not, ◌&&◌, ◌||◌, eqb, ltb, List, [], ◌∷◌, ◌++◌, length, take, set, Ok, Err, Result, sym, refl, ap, ◌∙◌, subst, arith}
+use Rattle.std.proofs.Common.{◌≡◌, ℕ, ◌+◌, ◌<◌, ◌≤◌, Bool, true, false, cond, not, ◌&&◌, ◌||◌, eqb, List, [], ◌∷◌, ◌++◌, length, take, set, Ok, Err, Result, sym, refl, ap, ◌∙◌, arith}
 use Rattle.std.proofs.lemmas.List.{take_more_set}
-use Rattle.std.proofs.lemmas.Bool.{and_parts, and_from, or_from, or_parts, ne_eqb, eq-eqb, not-true, not_from_false, le-ltb, lt-ltb, eqb-false}
+use Rattle.std.proofs.lemmas.Bool.{and_parts, and_from, or_from, or_parts, ne_eqb, not-true, not_from_false, le-ltb, lt-ltb, eqb-false}
 use Rattle.filters.specs.declared.fault.FilterFault.{FilterFault}
 use Rattle.filters.specs.declared.fault.FilterFault.TheVariants.{ZeroLabel, LabelInUse}
 use Rattle.filters.specs.declared.filter.Record.{Record}

@@ -1,9 +1,9 @@
 -- Labels of places, and the first place of one.
-use Rattle.std.proofs.Common.{◌≡◌, ℕ, zero, suc, ◌+◌, ◌-◌, ◌<◌, ◌≤◌, Bool, true, false, cond, not, ◌&&◌, ◌||◌, eqb, List, [], ◌∷◌, ◌++◌, map, length, get_or, take, drop, is_some, Some, None, Option, sym, refl, ap, ◌∙◌, arith, MatchOption}
-use Rattle.std.proofs.lemmas.Bool.{eq-eqb, ne_eqb, eqb-true, or_from, or_parts, or_left, or_right, and_parts, and_from, not-true, not_from_false, both_ways, or_cases}
+use Rattle.std.proofs.Common.{◌≡◌, ℕ, zero, suc, ◌<◌, true, false, ◌||◌, eqb, List, [], ◌∷◌, ◌++◌, map, length, get_or, take, drop, is_some, Some, None, Option, sym, refl, ap, arith, MatchOption}
+use Rattle.std.proofs.lemmas.Bool.{eq-eqb, ne_eqb, or_from, or_parts, or_left, or_right}
 use Rattle.filters.specs.declared.filter.Record.{Record}
 use Rattle.tables.specs.Verdict.{has}
-use Rattle.book.specs.Labels.{labels, apart, without, FirstAt}
+use Rattle.book.specs.Labels.{labels, without, FirstAt}
 
 module _ {D S P : Type 0} where
   pub length_labels : (rs : List (Record D S P)) → length (labels rs) ≡ length rs

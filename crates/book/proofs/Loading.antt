@@ -1,20 +1,17 @@
 -- A book after a table was loaded.
-use Rattle.std.proofs.Common.{◌≡◌, ℕ, suc, ◌/◌, ◌%◌, ◌^◌, ◌<◌, ◌≤◌, min, Bool, true, false, cond, not, ◌&&◌, eqb, ltb, List, [], ◌∷◌, ◌++◌, map, length, take, drop, Some, None, Ok, Err, Option, Result, sym, refl, ap, ◌∙◌, subst, inl, inr, arith}
+use Rattle.std.proofs.Common.{◌≡◌, ℕ, ◌≤◌, min, Bool, true, cond, not, ◌&&◌, eqb, ltb, List, [], ◌∷◌, ◌++◌, map, length, take, drop, Some, None, Ok, Err, Option, Result, sym, refl, ap, ◌∙◌, subst, inl, inr, arith}
 use Rattle.std.proofs.lemmas.List.{length-map, length-take-le}
 use Rattle.std.proofs.lemmas.Bool.{and_parts, and_from, not_from_false, cases_lt, lt-ltb, le-ltb}
 use Rattle.kinds.specs.Strings.{Str, bits}
 use Rattle.filters.specs.declared.filter.Record.{Record}
-use Rattle.filters.specs.Meaning.{held, held_at, rules, prefix_of}
-use Rattle.filters.specs.Orders.{Each}
+use Rattle.filters.specs.Meaning.{held, held_at, rules}
 use Rattle.filters.specs.Rules.{Rule}
-use Rattle.tables.specs.declared.fault.LoadFault.{LoadFault}
 use Rattle.tables.specs.declared.fault.TableFault.{TableFault}
 use Rattle.tables.specs.declared.fault.TableFault.TheVariants.{Short, Kind as OtherKind, Length, Full}
-use Rattle.tables.specs.Bytes.{word, fields, nth}
-use Rattle.tables.specs.Format.{Kind, Entry, entry_of, decode, filter_count, head_fields, head_widths, table_size}
+use Rattle.tables.specs.Format.{Kind, Entry, entry_of, decode, filter_count, head_fields, table_size}
 use Rattle.tables.specs.Laws.{distinct}
 use Rattle.tables.specs.Memory.{Labelled}
-use Rattle.tables.specs.Verdict.{has, labels as entryLabels, table_verdict, behind_head, head_verdict, same_kinds, entries_verdict}
+use Rattle.tables.specs.Verdict.{has, labels as entryLabels, table_verdict, behind_head, same_kinds, entries_verdict}
 use Rattle.tables.proofs.Inverse.{table_labels}
 use Rattle.tables.proofs.Tables.{length_records}
 use Rattle.book.specs.Labels.{labels, apart}

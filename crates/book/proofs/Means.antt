@@ -1,12 +1,11 @@
 -- The rules that a book's places hold, as places are put in and taken out.
-use Rattle.std.proofs.Common.{◌≡◌, ℕ, suc, ◌+◌, ◌-◌, ◌<◌, ◌≤◌, Bool, true, false, cond, not, ◌&&◌, ◌||◌, eqb, List, [], ◌∷◌, ◌++◌, map, length, take, drop, set, Some, None, Option, sym, refl, ap, ◌∙◌, subst, inl, inr, arith}
+use Rattle.std.proofs.Common.{◌≡◌, ℕ, ◌+◌, ◌<◌, true, false, not, ◌&&◌, eqb, List, [], ◌∷◌, ◌++◌, map, length, take, set, Some, None, Option, sym, refl, ap, ◌∙◌, subst, inl, inr}
 use Rattle.std.proofs.lemmas.List.{take_more_set, append-nil}
 use Rattle.std.proofs.lemmas.Bool.{and_parts, or_from, or_parts, not-true, eqb-true, eqb-false, cases_Bool}
 use Rattle.kinds.specs.Strings.{Str}
 use Rattle.filters.specs.declared.filter.Filter.{Filter}
-use Rattle.filters.specs.declared.filter.Prefix.{Prefix}
 use Rattle.filters.specs.declared.filter.Record.{Record}
-use Rattle.filters.specs.Meaning.{record_of, rule_of, prefix_of, respelt, held, held_at, rules}
+use Rattle.filters.specs.Meaning.{record_of, rule_of, prefix_of, held, held_at, rules}
 use Rattle.filters.specs.Orders.{Each, Apart}
 use Rattle.filters.specs.Rules.{Rule}
 use Rattle.filters.proofs.Reading.{rules_append}

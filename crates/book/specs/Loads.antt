@@ -1,8 +1,8 @@
 -- What loading a table leaves in a book.
-use Rattle.std.specs.Prelude.{ℕ, Bool, List, [], ◌∷◌, ◌++◌, take, is_some, Some, None, Ok, Err, Option, Result}
-use Rattle.kinds.specs.Strings.{Str, bits}
+use Rattle.std.specs.Prelude.{ℕ, List, is_some, Ok, Err, Option, Result}
+use Rattle.kinds.specs.Strings.{bits}
 use Rattle.filters.specs.Rules.{Rule}
-use Rattle.filters.specs.Meaning.{held, rules}
+use Rattle.filters.specs.Meaning.{rules}
 use Rattle.tables.specs.declared.fault.LoadFault.{LoadFault}
 use Rattle.tables.specs.Format.{Kind, Entry, decode}
 use Rattle.tables.specs.Verdict.{table_verdict}

@@ -1,5 +1,5 @@
 -- When a filter is refused, and by which number.
-use Rattle.std.specs.Prelude.{ℕ, Bool, true, false, cond, ◌||◌, List, [], ◌∷◌, drop, Ok, Err, Result, ◌==◌, nat_lt}
+use Rattle.std.specs.Prelude.{ℕ, Bool, false, cond, ◌||◌, [], ◌∷◌, drop, Ok, Err, Result, ◌==◌, nat_lt}
 use Rattle.kinds.specs.Strings.{Str}
 use Rattle.filters.specs.declared.directive.Directive.{Directive}
 use Rattle.filters.specs.declared.fault.FilterFault.{FilterFault}

@@ -1,7 +1,6 @@
 -- The grid in memory that a list of filters derives: which node stands at which place, up to the numbering.
-use Rattle.std.specs.Prelude.{◌≡◌, ℕ, zero, suc, ◌-◌, Bool, true, false, cond, not, ◌&&◌, List, [], ◌∷◌, ◌++◌, map, length, replicate, Some, None, Option}
+use Rattle.std.specs.Prelude.{◌≡◌, ℕ, suc, ◌-◌, Bool, true, false, cond, not, ◌&&◌, List, [], ◌∷◌, ◌++◌, map, length, replicate, Some, None, Option}
 use Rattle.kinds.specs.Strings.{Str, equal, snoc}
-use Rattle.filters.specs.declared.directive.Directive.{Directive}
 use Rattle.filters.specs.Rules.{Rule, standing}
 use Rattle.tries.specs.Prefixes.{any, longest_proper}
 use Rattle.tries.specs.Shape.{has_dst, has_src}

@@ -1,4 +1,6 @@
 // The grid in memory that is handed in: its nodes, its making, and the searches of it.
+#![tactic(auto)]
+
 pub mod build;
 mod edit;
 mod fill;

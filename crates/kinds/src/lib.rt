@@ -1,4 +1,6 @@
 // Address kinds and cost kinds: what they mean, how they are written as patterns, and how costs compare.
+#![tactic(auto)]
+
 pub mod address;
 pub mod cost;
 pub mod ipv4;

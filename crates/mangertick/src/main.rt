@@ -1,4 +1,6 @@
 // Reads items from standard input, one after another through one buffer, and prints a line for each.
+#![tactic(auto)]
+
 use report::{ITEM_BYTES, MOST_ITEMS, next_item, split, tell};
 use std::io;
 

@@ -1,14 +1,14 @@
 -- What RFC 791 promises of headers: the proofs.
-use Rattle.std.proofs.Common.{◌≡◌, ℕ, ◌+◌, ◌-◌, ◌*◌, ◌/◌, ◌%◌, ◌^◌, ◌<◌, ◌≤◌, Bool, true, false, cond, not, ◌&&◌, ◌||◌, eqb, ltb, ◌⊎◌, List, [], ◌∷◌, length, get_or, take, drop, set, Ok, Err, Result, sym, refl, ap, ◌∙◌, subst, inl, inr, arith, length-drop, length-set, get_or-drop, get_or-set_other, get_or-set_same, pow_pos, pow_mono, pow-add, ltb-false, eq-eqb, eqb-true}
+use Rattle.std.proofs.Common.{◌≡◌, ℕ, ◌+◌, ◌-◌, ◌*◌, ◌/◌, ◌%◌, ◌^◌, ◌<◌, ◌≤◌, Bool, true, false, cond, not, ◌||◌, eqb, ltb, ◌⊎◌, List, [], ◌∷◌, length, take, drop, set, Ok, Err, Result, sym, refl, ap, ◌∙◌, subst, inl, inr, arith, length-drop, length-set, get_or-drop, get_or-set_other, get_or-set_same, pow_pos, pow_mono, pow-add, ltb-false, eq-eqb, eqb-true}
 use native.Mathlib.Nat.{div-eq_of_lt}
 use borrow.Author.Tests.{not-false}
 use Rattle.std.proofs.lemmas.Bool.Decides.{nat_tests, leb_tells, eqb_tells}
 use Rattle.packets.specs.declared.fault.PacketFault.{PacketFault}
 use Rattle.packets.specs.declared.fault.PacketFault.TheVariants.{Short, Version, HeaderLength, TotalLength, Checksum}
-use Rattle.packets.specs.Header.{part, number, octet, word, word_sum, ones_complement}
-use Rattle.packets.specs.Datagram.{Datagram, checks, unless, version, header_words, header_length, total_length, header_sum, all_ones, datagram, fields}
-use Rattle.packets.specs.Facts.{Bytes, octets, AddressFields, rest_sum, complement, ComplementAccepted, changed, Refused, ChangedBitRefused}
-use Rattle.packets.proofs.Sums.{sum_high, sum_low, number_four}
+use Rattle.packets.specs.Header.{part, number, octet, word_sum, ones_complement}
+use Rattle.packets.specs.Datagram.{Datagram, version, header_words, header_length, total_length, header_sum, all_ones, datagram, fields}
+use Rattle.packets.specs.Facts.{Bytes, octets, AddressFields, rest_sum, ComplementAccepted, changed, Refused, ChangedBitRefused}
+use Rattle.packets.proofs.Sums.{sum_high, sum_low}
 use Rattle.packets.proofs.Order.{Sized, at_end}
 
 -- a check that an accepted value passed

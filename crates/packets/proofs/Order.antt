@@ -1,5 +1,5 @@
 -- Where the reader's tests lead: past the lengths to the checksum, and past it to the fields.
-use Rattle.std.proofs.Common.{◌≡◌, ℕ, ◌+◌, ◌*◌, ◌<◌, ◌≤◌, Bool, true, false, cond, not, ◌&&◌, ◌||◌, eqb, ltb, List, [], ◌∷◌, length, Ok, Err, Option, sym, refl, ap, ◌∙◌, arith, le-ltb, eq-eqb}
+use Rattle.std.proofs.Common.{◌≡◌, ℕ, ◌*◌, ◌≤◌, true, false, cond, not, ◌||◌, eqb, ltb, List, length, Ok, Err, Option, sym, refl, ap, ◌∙◌, arith, le-ltb, eq-eqb}
 use Rattle.std.proofs.lemmas.Bool.Decides.{nat_tests}
 use Rattle.packets.specs.declared.packet.Ports.{Ports}
 use Rattle.packets.specs.declared.fault.PacketFault.TheVariants.{Checksum}

@@ -1,7 +1,7 @@
 -- Sums of 16-bit numbers, and what they come to when carries are added back.
-use Rattle.std.proofs.Common.{◌≡◌, ℕ, zero, suc, ◌+◌, ◌-◌, ◌*◌, ◌/◌, ◌%◌, ◌<◌, ◌≤◌, Bool, true, false, cond, ◌&&◌, eqb, ltb, ◌⊎◌, List, [], ◌∷◌, length, get_or, take, drop, set, sym, refl, ap, ◌∙◌, inl, inr, add-one, arith, length-drop, length-take-le, get_or-drop, get_or-set_other, get_or-take, get_or-set_same}
+use Rattle.std.proofs.Common.{◌≡◌, ℕ, zero, suc, ◌+◌, ◌*◌, ◌/◌, ◌<◌, ◌≤◌, eqb, List, [], ◌∷◌, length, get_or, take, drop, set, sym, refl, ap, ◌∙◌, inl, inr, add-one, arith, length-drop, length-take-le, get_or-drop, get_or-set_other, get_or-take, get_or-set_same}
 use Rattle.std.proofs.lemmas.Bool.Decides.{nat_tests, leb_tells}
-use Rattle.packets.specs.Header.{part, number, octet, word, word_sum, ones_complement}
+use Rattle.packets.specs.Header.{number, octet, word, word_sum, ones_complement}
 use Rattle.packets.specs.Datagram.{all_ones}
 
 -- no number adds up to 0

@@ -1,4 +1,6 @@
 // Reading IPv4 packets as RFC 791 lays them out.
+#![tactic(auto)]
+
 pub mod checksum;
 pub mod facts;
 pub mod fault;

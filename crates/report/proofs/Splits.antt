@@ -1,9 +1,9 @@
 -- The first item of an input.
-use Rattle.std.proofs.Common.{◌≡◌, ℕ, ◌+◌, ◌-◌, ◌*◌, ◌<◌, ◌≤◌, Bool, true, false, cond, eqb, ltb, ◌⊎◌, List, [], ◌∷◌, length, get_or, take, drop, sym, refl, ap, ◌∙◌, inl, inr, arith, length-take-le, take_all, take-take}
+use Rattle.std.proofs.Common.{◌≡◌, ℕ, ◌+◌, ◌*◌, ◌<◌, ◌≤◌, ◌⊎◌, List, [], ◌∷◌, length, get_or, take, drop, sym, refl, ap, ◌∙◌, inl, inr, arith, length-take-le, take_all, take-take}
 use Rattle.std.proofs.lemmas.Bool.Decides.{nat_tests, leb_tells}
 use Rattle.std.proofs.lemmas.Slice.{between_is}
 use Rattle.packets.specs.Header.{part, number}
-use Rattle.report.specs.Items.{Front, whole, long, short, end, announced, front, goes_on, behind, needed}
+use Rattle.report.specs.Items.{whole, long, announced, front, behind, needed}
 
 -- the socket and the length that four bytes or more begin with
 pub head : (b : List ℕ) → 4 ≤ length b → (number (part 0 2 b) ≡ get_or b 0 0 * 256 + get_or b 1 0) × (announced b ≡ get_or b 2 0 * 256 + get_or b 3 0)

@@ -1,5 +1,5 @@
 -- How an input falls into items: socket 16 bits, length 16 bits, and a packet of that length.
-use Rattle.std.specs.Prelude.{ℕ, ◌+◌, Bool, true, false, cond, List, [], ◌∷◌, length, drop, ◌==◌, nat_lt}
+use Rattle.std.specs.Prelude.{ℕ, ◌+◌, Bool, true, false, cond, List, length, drop, ◌==◌, nat_lt}
 use Rattle.packets.specs.Header.{part, number}
 use Rattle.report.specs.declared.items.Item.{Item}
 use Rattle.report.specs.declared.items.Item.TheVariants.{Whole, Long, Short, End}

@@ -1,4 +1,6 @@
 // From input items to output lines.
+#![tactic(auto)]
+
 pub mod items;
 pub mod lines;
 pub mod stream;

@@ -1,5 +1,5 @@
 -- Fields of bits: shifts and masks take them out and put them together.
-use Rattle.std.proofs.Common.{◌≡◌, ℕ, ◌+◌, ◌*◌, ◌/◌, ◌%◌, ◌^◌, ◌<◌, Bool, cond, List, [], ◌∷◌, sym, refl, ap, ◌∙◌, mul_assoc, add-mul, arith, pow-add}
+use Rattle.std.proofs.Common.{◌≡◌, ℕ, ◌+◌, ◌*◌, ◌/◌, ◌%◌, ◌^◌, ◌<◌, Bool, cond, [], ◌∷◌, sym, refl, ap, ◌∙◌, mul_assoc, add-mul, arith, pow-add}
 use lib.Bits.{bit_or, bit_and}
 use Rattle.std.proofs.lemmas.Nat.{or_shifted, and_mask, shl_below}
 use Rattle.std.proofs.lemmas.Bool.{ne_eqb}

@@ -1,6 +1,5 @@
 -- A table written and read back, and an accepted table written again.
-use Rattle.std.proofs.Common.{◌≡◌, ℕ, suc, ◌+◌, ◌*◌, ◌/◌, ◌^◌, ◌<◌, ◌≤◌, Bool, true, false, cond, ◌&&◌, ◌||◌, eqb, ltb, List, [], ◌∷◌, ◌++◌, map, length, take, drop, Ok, Err, Result, sym, refl, ap, ◌∙◌, subst, arith}
-use Rattle.std.specs.Int.Digits.{AllBelowBase}
+use Rattle.std.proofs.Common.{◌≡◌, ℕ, ◌+◌, ◌*◌, ◌/◌, ◌^◌, ◌<◌, ◌≤◌, Bool, true, false, cond, ◌&&◌, eqb, ltb, List, [], ◌∷◌, ◌++◌, map, length, take, drop, Ok, Err, Result, sym, refl, ap, ◌∙◌, arith}
 use Rattle.std.proofs.ByRecursion.{All-drop}
 use Rattle.std.proofs.lemmas.List.{drop_at, take-append-drop, length-append, length-drop, length-map}
 use Rattle.std.proofs.lemmas.Bool.{eq-eqb, le-ltb, ltb-false, and_from, or_parts}
@@ -12,13 +11,12 @@ use Rattle.filters.specs.declared.filter.Filter.{Filter}
 use Rattle.filters.specs.Meaning.{respelt}
 use Rattle.filters.specs.Orders.{Each}
 use Rattle.filters.specs.Refusals.{body_verdict, filter_verdict, then_used}
-use Rattle.tables.specs.declared.fault.RecordFault.{RecordFault}
 use Rattle.tables.specs.declared.fault.RecordFault.TheVariants.{Filter as OfFilter, Pattern}
 use Rattle.tables.specs.declared.fault.TableFault.{TableFault}
 use Rattle.tables.specs.declared.fault.LoadFault.{LoadFault}
 use Rattle.tables.specs.Bytes.{pack, nth}
 use Rattle.tables.specs.Format.{Kind, Entry, head_widths, head_of, head_fields, filter_count, record_size, table_size, encode_head, encode_records, encode, decode_records, decode}
-use Rattle.tables.specs.Laws.{distinct, filed, Holds, ReadsBack, WritesBack}
+use Rattle.tables.specs.Laws.{distinct, filed, ReadsBack, WritesBack}
 use Rattle.tables.specs.Memory.{Labelled}
 use Rattle.tables.specs.Verdict.{layered, has, labels, same_kinds, behind_head, head_verdict, entry_verdict, entries_verdict, table_verdict}
 use Rattle.tables.proofs.Words.{length_spelt}

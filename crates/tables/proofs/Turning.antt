@@ -1,12 +1,11 @@
 -- Loading and writing one after the other.
-use Rattle.std.proofs.Common.{◌≡◌, ℕ, ◌-◌, ◌≤◌, Bool, true, false, cond, ◌||◌, ltb, List, [], ◌∷◌, ◌++◌, map, length, take, drop, Ok, Err, Result, sym, refl, ap, ◌∙◌, subst, arith}
+use Rattle.std.proofs.Common.{◌≡◌, ℕ, ◌-◌, ◌≤◌, Bool, true, false, cond, ◌||◌, ltb, List, [], ◌∷◌, ◌++◌, map, length, take, drop, Ok, Err, Result, sym, refl, ap, ◌∙◌, arith}
 use Rattle.std.specs.Int.Digits.{AllBelowBase}
 use Rattle.std.proofs.lemmas.List.{length-map, length-take-le, take_at}
 use Rattle.filters.specs.declared.filter.Record.{Record}
 use Rattle.tables.specs.declared.fault.LoadFault.{LoadFault}
 use Rattle.tables.specs.declared.fault.WriteFault.{WriteFault}
 use Rattle.tables.specs.declared.fault.WriteFault.TheVariants.{Short}
-use Rattle.tables.specs.declared.turn.TurnFault.{TurnFault}
 use Rattle.tables.specs.declared.turn.TurnFault.TheVariants.{Load, Write}
 use Rattle.tables.specs.Format.{Kind, Entry, entry_of, filter_count, table_size, encode, decode}
 use Rattle.tables.specs.Memory.{write_verdict}

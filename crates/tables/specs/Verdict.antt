@@ -1,5 +1,5 @@
 -- Which tables are accepted, and which refusal another one meets at which record.
-use Rattle.std.specs.Prelude.{◌≡◌, ℕ, suc, Bool, true, false, cond, ◌&&◌, ◌||◌, List, [], ◌∷◌, ◌++◌, map, length, is_some, Ok, Err, Option, Result, ◌==◌, nat_lt}
+use Rattle.std.specs.Prelude.{◌≡◌, ℕ, suc, Bool, false, cond, ◌&&◌, ◌||◌, List, [], ◌∷◌, ◌++◌, map, length, is_some, Ok, Err, Option, Result, ◌==◌, nat_lt}
 use Rattle.kinds.specs.Strings.{bits}
 use Rattle.kinds.specs.declared.written.PatternFault.TheVariants.{Unlawful}
 use Rattle.filters.specs.declared.fault.FilterFault.{FilterFault}

@@ -1,4 +1,6 @@
 // The byte format of filter tables: reading, checking and writing, once for every kinds.
+#![tactic(auto)]
+
 pub mod check;
 pub mod fault;
 pub mod field;

@@ -1,4 +1,4 @@
-use Rattle.std.proofs.Common.{◌≡◌, suc, ◌+◌, List, get_or, drop, set, ap, ◌∙◌, arith}
+use Rattle.std.proofs.Common.{suc, ◌+◌, List, get_or, drop, set, ap, ◌∙◌, arith}
 use Rattle.std.proofs.lemmas.List.Edits.{paste_none}
 use Rattle.book.proofs.Shifts.{shift_more}
 use Rattle.book.proofs.memory.close.Goals as goal

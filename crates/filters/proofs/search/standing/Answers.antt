@@ -1,4 +1,4 @@
-use Rattle.std.proofs.Common.{◌≡◌, ℕ, ◌+◌, ◌≤◌, ltb, List, drop, sym, refl, ap, ◌∙◌, add-zero, zero-add, arith}
+use Rattle.std.proofs.Common.{ℕ, ◌+◌, ltb, List, sym, ap, ◌∙◌, add-zero, zero-add, arith}
 use Rattle.std.proofs.lemmas.List.{at_drop_all}
 use Rattle.filters.specs.declared.filter.Record.{Record}
 use Rattle.filters.specs.Rules.{Rule, by_cost}

@@ -1,7 +1,7 @@
 use Rattle.std.proofs.Common.{◌+◌, set, sym, subst, arith}
 use Rattle.grid.specs.declared.node.Node.{Node}
 use Rattle.grid.specs.Nodes.{node_at}
-use Rattle.grid.specs.Edits.{lead_of, leading}
+use Rattle.grid.specs.Edits.{lead_of}
 use Rattle.grid.specs.Derived.{key_eq}
 use Rattle.grid.specs.Build.{Safe, Grown, reached}
 use Rattle.grid.proofs.Growth.{extend_there, extend_new}

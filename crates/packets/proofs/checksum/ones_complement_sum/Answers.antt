@@ -1,5 +1,5 @@
-use Rattle.std.proofs.Common.{◌≡◌, ◌*◌, sym, refl, ap, ◌∙◌}
-use Rattle.packets.specs.Header.{word_sum, ones_complement, word}
+use Rattle.std.proofs.Common.{◌*◌, refl}
+use Rattle.packets.specs.Header.{word_sum, word}
 use Rattle.packets.proofs.Sums.{sum_none, sum_more, carry_more}
 use Rattle.packets.proofs.checksum.ones_complement_sum.Goals as goal
 

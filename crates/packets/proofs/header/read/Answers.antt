@@ -1,6 +1,6 @@
-use Rattle.std.proofs.Common.{◌≡◌, ℕ, ◌-◌, ◌*◌, eqb, List, length, take, drop, Ok, sym, refl, ap, ◌∙◌, arith}
-use Rattle.packets.specs.Header.{part, number, octet, word_sum, ones_complement}
-use Rattle.packets.specs.Datagram.{header_words, header_length, total_length, header_sum, payload_of, ports_of}
+use Rattle.std.proofs.Common.{◌≡◌, ℕ, ◌-◌, ◌*◌, eqb, List, take, drop, Ok, sym, ap, ◌∙◌, arith}
+use Rattle.packets.specs.Header.{part, number, octet, ones_complement}
+use Rattle.packets.specs.Datagram.{header_words, header_length, total_length, payload_of, ports_of}
 use Rattle.packets.proofs.Sums.{sum_front, number_four}
 use Rattle.packets.proofs.Order.{Sized, sized, at_sum, at_end, same_fields}
 use Rattle.packets.proofs.header.read.Goals as goal

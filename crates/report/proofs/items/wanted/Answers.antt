@@ -1,4 +1,4 @@
-use Rattle.std.proofs.Common.{◌≡◌, ℕ, take, sym, ap, ◌∙◌}
+use Rattle.std.proofs.Common.{ℕ, take, sym, ap, ◌∙◌}
 use Rattle.report.specs.Items.{front, needed}
 use Rattle.report.proofs.Splits.{enough}
 use Rattle.report.proofs.items.wanted.Goals as goal

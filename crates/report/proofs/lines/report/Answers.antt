@@ -1,6 +1,6 @@
-use Rattle.std.proofs.Common.{◌≡◌, ℕ, ◌+◌, ◌-◌, List, [], ◌∷◌, ◌++◌, string_bytes, sym, refl, ap, ◌∙◌, append-nil, arith}
-use Rattle.report.specs.Items.{front, goes_on, behind, meant}
-use Rattle.report.specs.Lines.{lines, said, text, told_of}
+use Rattle.std.proofs.Common.{◌≡◌, ℕ, ◌+◌, ◌-◌, List, [], ◌++◌, string_bytes, sym, ap, ◌∙◌, append-nil, arith}
+use Rattle.report.specs.Items.{goes_on}
+use Rattle.report.specs.Lines.{lines, said, told_of}
 use Rattle.report.proofs.Texts.{lines_none, lines_end, complete, another}
 use Rattle.report.proofs.lines.report.Goals as goal
 

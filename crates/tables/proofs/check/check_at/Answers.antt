@@ -1,4 +1,4 @@
-use Rattle.std.proofs.Common.{◌≡◌, ◌+◌, ◌*◌, true, drop, sym, ◌∙◌}
+use Rattle.std.proofs.Common.{◌+◌, ◌*◌, true, drop, sym, ◌∙◌}
 use Rattle.tables.specs.Format.{kind, entry_of, record_size, decode_record, decode_records}
 use Rattle.tables.specs.Verdict.{labels}
 use Rattle.tables.proofs.Walk.{counted_at, counted_passed, verdict_same, record_same}

@@ -1,4 +1,4 @@
-use Rattle.std.proofs.Common.{◌≡◌, ℕ, refl, ap, ◌∙◌}
+use Rattle.std.proofs.Common.{ℕ, refl, ap, ◌∙◌}
 use Rattle.kinds.specs.Strings.{bits}
 use Rattle.filters.specs.Meaning.{respelt}
 use Rattle.tables.proofs.Verdicts.{body_same}

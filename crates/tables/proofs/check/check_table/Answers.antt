@@ -1,4 +1,4 @@
-use Rattle.std.proofs.Common.{◌≡◌, true, Ok, sym, ap, ◌∙◌, arith}
+use Rattle.std.proofs.Common.{true, Ok, sym, ap, ◌∙◌, arith}
 use Rattle.std.proofs.lemmas.Result.{MatchResult-weaker}
 use Rattle.tables.specs.Format.{kind, table_size}
 use Rattle.tables.proofs.Heads.{head_ok, behind_ok}

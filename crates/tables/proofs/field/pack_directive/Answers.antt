@@ -1,4 +1,4 @@
-use Rattle.std.proofs.Common.{◌≡◌, sym, ap, ◌∙◌, arith}
+use Rattle.std.proofs.Common.{sym, ap, ◌∙◌, arith}
 use Rattle.tables.specs.Directives.{directive_number}
 use Rattle.tables.proofs.Fields.{pack_two, pack_three}
 use Rattle.tables.proofs.field.pack_directive.Goals as goal

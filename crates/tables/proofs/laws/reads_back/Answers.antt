@@ -1,4 +1,4 @@
-use Rattle.std.proofs.Common.{◌≡◌, ℕ, ◌/◌, ◌^◌, ◌<◌, is_some, sym, ap, ◌∙◌, subst}
+use Rattle.std.proofs.Common.{ℕ, ◌<◌, is_some, sym, ap, ◌∙◌, subst}
 use Rattle.kinds.specs.Strings.{bits}
 use Rattle.tables.specs.Format.{kind}
 use Rattle.tables.proofs.Inverse.{read_back}

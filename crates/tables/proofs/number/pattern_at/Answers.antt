@@ -1,4 +1,4 @@
-use Rattle.std.proofs.Common.{◌≡◌, ℕ, ◌/◌, ◌^◌, ◌<◌, take, drop, ap, ◌∙◌, subst}
+use Rattle.std.proofs.Common.{ℕ, ◌/◌, ◌^◌, ◌<◌, take, drop, ap, ◌∙◌, subst}
 use Rattle.tables.specs.Bytes.{word}
 use Rattle.tables.proofs.Words.{narrow_same}
 use Rattle.tables.proofs.number.pattern_at.Goals as goal

@@ -5,7 +5,7 @@ use Rattle.filters.specs.Meaning.{record_of}
 use Rattle.tables.specs.declared.fault.WriteFault.{WriteFault}
 use Rattle.tables.specs.Format.{kind, entry_of, encode, decode}
 use Rattle.tables.specs.Laws.{filed}
-use Rattle.tables.specs.Memory.{Loaded, write_verdict, written}
+use Rattle.tables.specs.Memory.{Loaded, written}
 use Rattle.tables.specs.Turn.{Into, Reloaded}
 use Rattle.tables.specs.Verdict.{table_verdict}
 use Rattle.tables.proofs.Turning.{part_is, wrote_length, write_load_ok, write_load_err, no_write, places_same, map_two, ok_same, not_refused}

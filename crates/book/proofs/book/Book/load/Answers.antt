@@ -1,10 +1,9 @@
-use Rattle.std.proofs.Common.{◌≡◌, ℕ, ◌≤◌, Bool, true, List, map, length, take, is_some, sym, refl, ap, ◌∙◌, subst, arith}
+use Rattle.std.proofs.Common.{ℕ, ◌≤◌, List, length, take, is_some, sym, refl, ap, ◌∙◌, arith}
 use Rattle.filters.specs.declared.filter.Record.{Record}
 use Rattle.filters.specs.Meaning.{rules}
 use Rattle.kinds.specs.Strings.{bits}
-use Rattle.tables.specs.Format.{Kind, kind, Entry, entry_of, decode}
-use Rattle.tables.specs.Verdict.{Tells, table_verdict}
-use Rattle.book.specs.Labels.{labels, apart}
+use Rattle.tables.specs.Format.{kind, entry_of}
+use Rattle.book.specs.Labels.{apart}
 use Rattle.book.proofs.Loading.{capacity_same, labels_entries, rules_entries, count_few, labels_loaded}
 use Rattle.book.proofs.book.Book.load.Goals as goal
 

@@ -1,4 +1,4 @@
-use Rattle.std.proofs.Common.{◌-◌, take, sym, ap, ◌∙◌, arith}
+use Rattle.std.proofs.Common.{take, sym, ap, ◌∙◌, arith}
 use Rattle.book.specs.Labels.{labels}
 use Rattle.book.specs.Books.{withdraw_verdict}
 use Rattle.book.proofs.Found.{has_at}

@@ -1,4 +1,4 @@
-use Rattle.std.proofs.Common.{◌≡◌, ℕ, List, map, length, take, Result, ap, ◌∙◌}
+use Rattle.std.proofs.Common.{ℕ, List, map, length, ap, ◌∙◌}
 use Rattle.std.proofs.lemmas.List.{length-take-le}
 use Rattle.filters.specs.declared.filter.Record.{Record}
 use Rattle.tables.specs.Format.{kind, entry_of, encode}

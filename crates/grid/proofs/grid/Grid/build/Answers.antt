@@ -1,6 +1,5 @@
-use Rattle.std.proofs.Common.{◌≡◌, ℕ, Bool, true, false, cond, List, length, take, Ok, Err, Result, sym, refl, ap, ◌∙◌, subst}
+use Rattle.std.proofs.Common.{◌≡◌, ℕ, Bool, cond, List, length, take, Ok, Err, Result, sym, ap, ◌∙◌, subst}
 use Rattle.std.proofs.lemmas.List.{length-take-le}
-use Rattle.filters.specs.declared.filter.Record.{Record}
 use Rattle.filters.specs.Meaning.{rules}
 use Rattle.filters.specs.Orders.{Apart}
 use Rattle.filters.specs.Rules.{Rule, better}

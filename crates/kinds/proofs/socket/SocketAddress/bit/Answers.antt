@@ -1,4 +1,4 @@
-use Rattle.std.proofs.Common.{◌≡◌, ℕ, ◌-◌, sym, ap, ◌∙◌}
+use Rattle.std.proofs.Common.{ℕ, ◌-◌, sym, ap, ◌∙◌}
 use Rattle.kinds.specs.Strings.{weighs}
 use Rattle.kinds.specs.Bits.{bits_at, bits_past}
 use Rattle.kinds.proofs.Fields.{packed}
