@@ -1,3 +1,5 @@
+#![tactic(auto)]
+
 // Tests of the filter book, of the refusals of filters and of linear search.
 #[cfg(test)]
 mod capacities;

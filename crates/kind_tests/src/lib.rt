@@ -1,3 +1,5 @@
+#![tactic(auto)]
+
 // Tests of the kinds: what their values are written as, which bits they have, how costs compare, and prefixes.
 #[cfg(test)]
 mod bits;

@@ -4,15 +4,14 @@ use lib.Bits.{bit_or}
 use Rattle.std.proofs.lemmas.Nat.{or_shifted}
 use Rattle.kinds.specs.declared.socket.Socket.{Socket}
 use Rattle.kinds.specs.declared.tariff.Tariff.{Tariff}
-use Rattle.kinds.specs.Parts.{hall_fits, row_fits, socket_fits, class_fits, price_fits}
-use Rattle.kinds.specs.Packed.{same_made}
+use Rattle.kinds.specs.Parts.{hall_fits, row_fits, socket_fits, class_fits, price_fits, packed_hall, packed_row, packed_socket, packed_below, priced_class, priced_price, priced_below}
+use Rattle.kinds.specs.Packed.{same_two, same_three}
 
 abbrev pub socket : (h r s : ℕ) → h < 16 → r < 64 → s < 64 → Socket
 socket h r s i j k = record { hall = h; row = r; socket = s; halls = i; rows = j; sockets = k }
 
 pub same_socket : {h r s h' r' s' : ℕ} → h ≡ h' → r ≡ r' → s ≡ s' → (i : h < 16) (j : r < 64) (k : s < 64) (i' : h' < 16) (j' : r' < 64) (k' : s' < 64) → socket h r s i j k ≡ socket h' r' s' i' j' k'
-same_socket {h} {r} {s} {h'} {r'} {s'} d e f i j k i' j' k' =
-    same_made (λ n m. socket n r s m j k) d i i' ∙ same_made (λ n m. socket h' n s i' m k) e j j' ∙ same_made (λ n m. socket h' r' n i' j' m) f k k'
+same_socket d e f i j k i' j' k' = same_three socket d e f i j k i' j' k'
 
 -- the socket that a number reads as
 abbrev pub socket_of : (n : ℕ) → n < 2 ^ 16 → Socket
@@ -22,10 +21,10 @@ abbrev pub packed : Socket → ℕ
 packed x = x.hall * 4096 + x.row * 64 + x.socket
 
 pub packed_fits : (x : Socket) → packed x < 2 ^ 16
-packed_fits x = omega arith
+packed_fits x = packed_below x.hall x.row x.socket x.halls x.rows x.sockets
 
 pub socket_again : (x : Socket) (h : packed x < 2 ^ 16) → socket_of (packed x) h ≡ x
-socket_again x h = same_socket (omega arith) (omega arith) (omega arith) _ _ _ _ _ _
+socket_again x h = same_socket (packed_hall x.hall x.row x.socket x.rows x.sockets) (packed_row x.hall x.row x.socket x.rows x.sockets) (packed_socket x.hall x.row x.socket x.sockets) _ _ _ _ _ _
 
 pub socket_back : (n : ℕ) (h : n < 2 ^ 16) → packed (socket_of n h) ≡ n
 socket_back n h = omega arith
@@ -34,7 +33,7 @@ abbrev pub tariff : (c p : ℕ) → c < 10 → p < 2 ^ 28 → Tariff
 tariff c p i j = record { class = c; price = p; classes = i; prices = j }
 
 pub same_tariff : {c p c' p' : ℕ} → c ≡ c' → p ≡ p' → (i : c < 10) (j : p < 2 ^ 28) (i' : c' < 10) (j' : p' < 2 ^ 28) → tariff c p i j ≡ tariff c' p' i' j'
-same_tariff {c} {p} {c'} {p'} d e i j i' j' = same_made (λ n m. tariff n p m j) d i i' ∙ same_made (λ n m. tariff c' n i' m) e j j'
+same_tariff d e i j i' j' = same_two tariff d e i j i' j'
 
 -- the tariff that a number reads as
 abbrev pub tariff_of : (n : ℕ) → n < 10 * 2 ^ 28 → Tariff
@@ -44,10 +43,10 @@ abbrev pub priced : Tariff → ℕ
 priced x = x.class * 2 ^ 28 + x.price
 
 pub priced_fits : (x : Tariff) → priced x < 10 * 2 ^ 28
-priced_fits x = omega arith
+priced_fits x = priced_below x.class x.price x.classes x.prices
 
 pub tariff_again : (x : Tariff) (h : priced x < 10 * 2 ^ 28) → tariff_of (priced x) h ≡ x
-tariff_again x h = same_tariff (omega arith) (omega arith) _ _ _ _
+tariff_again x h = same_tariff (priced_class x.class x.price x.prices) (priced_price x.class x.price x.prices) _ _ _ _
 
 pub tariff_back : (n : ℕ) (h : n < 10 * 2 ^ 28) → priced (tariff_of n h) ≡ n
 tariff_back n h = omega arith
