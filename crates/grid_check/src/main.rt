@@ -1,4 +1,5 @@
 // Builds grids and searches them, and prints what comes out: the searches worked by hand, and many more against linear search.
+#![tactic(auto)]
 
 mod edges;
 mod generate;

@@ -68,7 +68,7 @@ mod tests {
         assert_eq!(rt; packet.source().to_bits(), 0xc0000201);
         assert_eq!(rt; packet.destination().to_bits(), 0xc6336405);
         assert_eq!(rt; packet.protocol, 17);
-        assert!(rt; packet.payload == b"12345678");
+        assert!(rt; packet.payload == b"12345678".as_slice());
         match packet.ports {
             Some(ports) => {
                 assert_eq!(rt; ports.source, 0x3132);

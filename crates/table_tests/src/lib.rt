@@ -1,4 +1,6 @@
 // Tests of reading and writing tables.
+#![tactic(auto)]
+
 pub mod cases;
 pub mod run;
 pub mod sample;
