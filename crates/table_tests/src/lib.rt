@@ -2,6 +2,6 @@
 #![tactic(auto)]
 
 pub mod cases;
+pub mod groups;
 pub mod run;
 pub mod sample;
-pub mod tables;
