@@ -8,7 +8,7 @@ use Rattle.tries.specs.Shape.{nodes, need}
 use Rattle.tries.proofs.Nodes.{nodes_few}
 use Rattle.tries.proofs.Same.{order_is_nothing}
 use Rattle.grid.specs.declared.trail.TrailFault.{TrailFault}
-use Rattle.grid.specs.Refusals.{trailVerdict}
+use Rattle.grid.specs.Refusals.{trail_verdict}
 use Rattle.grid.specs.Steps.{named}
 use Rattle.grid.proofs.Counts.{keys_count}
 use Rattle.gateway.specs.declared.gateway.Gateway.{Gateway}
@@ -57,7 +57,7 @@ module _ {D S C D' S' C' : Type 0} (K : Kinds D S C D' S' C') where
   -- what is assured of a gateway that stands as a history leaves it
   module _ (laws : Compares K.cost.order) (d s : Str) (long : length d ≡ K.dst.width) (long' : length s ≡ K.src.width) where
     pub assured_after : (l : Left C) (w : Gateway D S C D' S' C') → After K l w → (places : ℕ) (o : Outcome) → o.found ≡ answer_of K l.built d s
-        → o.trailed ≡ trailVerdict places K.dst.width K.src.width (answer_of K l.built d s) → o.nodes ≡ w.grid.now.used → Assured K l d s places o
+        → o.trailed ≡ trail_verdict places K.dst.width K.src.width (answer_of K l.built d s) → o.nodes ≡ w.grid.now.used → Assured K l d s places o
     assured_after l w h places o f t u =
         let g = h.derived in
         let e : o.nodes ≡ nodes l.built = u ∙ sym g.long ∙ keys_count l.built g.keys g.distinct g.whole in
@@ -69,7 +69,7 @@ module _ {D S C D' S' C' : Type 0} (K : Kinds D S C D' S' C') where
           found =
               subst (λ (a : Answer). Right K.cost.order K.dst.width K.src.width l.built d s a) (sym f)
               (answer_right K.cost.order laws l.built h.apart d s K.dst.width K.src.width long long');
-          trailed = t ∙ ap (trailVerdict places K.dst.width K.src.width) (sym f);
+          trailed = t ∙ ap (trail_verdict places K.dst.width K.src.width) (sym f);
           counted = e;
           bounded = omega arith;
         }

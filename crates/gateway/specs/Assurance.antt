@@ -6,12 +6,12 @@ use Rattle.filters.specs.declared.directive.Directive.{Directive}
 use Rattle.filters.specs.Orders.{In, Each, Apart, Alike, Best}
 use Rattle.filters.specs.Rules.{Rule, linear, matches}
 use Rattle.tries.specs.Shape.{nodes}
-use Rattle.tries.specs.Lookup.{visits, back_visits}
+use Rattle.tries.specs.Search.{visits, back_visits}
 use Rattle.book.specs.declared.book.Book.{Book}
 use Rattle.book.specs.Books.{capacity_of}
 use Rattle.grid.specs.declared.grid.Grid.{Grid}
 use Rattle.grid.specs.Derived.{Derived}
-use Rattle.grid.specs.Refusals.{trailVerdict}
+use Rattle.grid.specs.Refusals.{trail_verdict}
 use Rattle.grid.specs.Steps.{named}
 use Rattle.gateway.specs.Kinds.{Kinds, ahead, filters_in}
 use Rattle.gateway.specs.declared.gateway.Gateway.{Gateway}
@@ -81,7 +81,7 @@ module _ {D S C D' S' C' : Type 0} (K : Kinds D S C D' S' C') where
     pub apart : Apart l.built
     pub found : Right K.cost.order K.dst.width K.src.width l.built d s o.found
     pub equals : o.found ≡ answer_of l.built d s
-    pub trailed : o.trailed ≡ trailVerdict places K.dst.width K.src.width o.found
+    pub trailed : o.trailed ≡ trail_verdict places K.dst.width K.src.width o.found
     pub counted : o.nodes ≡ nodes l.built
     pub bounded : o.nodes ≤ 1 + length l.built * (K.dst.width + K.src.width + 1)
 

@@ -1,6 +1,6 @@
 // A book and a grid in two lent memories, and the calls on them.
 ghost use Rattle.std.specs.Prelude.{◌≡◌, ◌+◌, ◌<◌, [], length, MatchResult};
-ghost use Rattle.grid.specs.Refusals.{trailVerdict};
+ghost use Rattle.grid.specs.Refusals.{trail_verdict};
 ghost use Rattle.grid.specs.Trails.{Trailed};
 ghost use Rattle.gateway.specs.declared.history.Call.TheVariants.{Add, Withdraw, Clear, Load, Install, Build};
 ghost use Rattle.gateway.specs.Assurance.{Right, answer_of, Stands, After, Follows};
@@ -78,7 +78,7 @@ impl<'b, 'g, 'f, 'n, D: Address, S: Address, C: Cost> Gateway<'b, 'g, 'f, 'n, D,
     pub fn load(&mut self, table: &[u8]) -> Result<usize, LoadFault>
         ensures book { Loads (kinds_of D.Address D.Written S.Address S.Written C.Cost C.Written) table.now result self.old.book.now self.new.book.now }
         ensures grid { self.new.grid.now ≡ self.old.grid.now }
-        ensures history { Follows (kinds_of D.Address D.Written S.Address S.Written C.Cost C.Written) (Load table.entry) self.old self.new }
+        ensures history { Follows (kinds_of D.Address D.Written S.Address S.Written C.Cost C.Written) (Load table) self.old self.new }
     {
         self.book.load(table)
     }
@@ -96,7 +96,7 @@ impl<'b, 'g, 'f, 'n, D: Address, S: Address, C: Cost> Gateway<'b, 'g, 'f, 'n, D,
     // stays and the old grid serves.
     pub fn install(&mut self, table: &[u8]) -> Result<Installed, InstallFault>
         ensures leaves { Installs (kinds_of D.Address D.Written S.Address S.Written C.Cost C.Written) table.now result self.old.book.now self.new.book.now self.old.grid.now self.new.grid.now }
-        ensures history { Follows (kinds_of D.Address D.Written S.Address S.Written C.Cost C.Written) (Install table.entry) self.old self.new }
+        ensures history { Follows (kinds_of D.Address D.Written S.Address S.Written C.Cost C.Written) (Install table) self.old self.new }
     {
         let filters = self.book.load(table)?;
         let nodes = self.grid.build(self.book)?;
@@ -119,7 +119,7 @@ impl<'b, 'g, 'f, 'n, D: Address, S: Address, C: Cost> Gateway<'b, 'g, 'f, 'n, D,
         source: &S,
         trail: &mut [u32],
     ) -> Result<(Option<(u16, Directive)>, u32), TrailFault>
-        ensures answer { (l : Left C) → After (kinds_of D.Address D.Written S.Address S.Written C.Cost C.Written) l self.now → result ≡ trailVerdict (length trail.old) D.Address.width S.Address.width (answer_of (kinds_of D.Address D.Written S.Address S.Written C.Cost C.Written) l.built (D.Address.string destination.now) (S.Address.string source.now)) }
+        ensures answer { (l : Left C) → After (kinds_of D.Address D.Written S.Address S.Written C.Cost C.Written) l self.now → result ≡ trail_verdict (length trail.old) D.Address.width S.Address.width (answer_of (kinds_of D.Address D.Written S.Address S.Written C.Cost C.Written) l.built (D.Address.string destination.now) (S.Address.string source.now)) }
         ensures right { (l : Left C) → After (kinds_of D.Address D.Written S.Address S.Written C.Cost C.Written) l self.now → MatchResult result (λ a. Right C.Cost.order D.Address.width S.Address.width l.built (D.Address.string destination.now) (S.Address.string source.now) a) (λ _. length trail.old < D.Address.width + S.Address.width + 2) }
         ensures memory { (l : Left C) → (h : After (kinds_of D.Address D.Written S.Address S.Written C.Cost C.Written) l self.now) → Trailed h.derived.keys l.built (D.Address.string destination.now) (S.Address.string source.now) trail.old trail.new result }
         ensures same { length trail.old < D.Address.width + S.Address.width + 2 → trail.new ≡ trail.old }

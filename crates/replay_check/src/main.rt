@@ -1,5 +1,7 @@
 // The test of a long table followed by a short one. In one memory a long table is installed and then a short one, in another the short
 // one alone; every pair of addresses of a kind of 8 bits is looked up behind both histories, and each lookup is compared.
+#![tactic(auto)]
+
 mod histories;
 mod tables;
 mod tally;

@@ -5,7 +5,7 @@ use Rattle.book.specs.Books.{capacity_of}
 use Rattle.filters.specs.declared.filter.Record.{Record}
 use Rattle.grid.specs.declared.grid.Grid.{Grid}
 use Rattle.grid.specs.declared.node.Node.TheVariants.{Empty}
-use Rattle.grid.specs.Refusals.{trailVerdict}
+use Rattle.grid.specs.Refusals.{trail_verdict}
 use Rattle.gateway.specs.declared.history.Call.{Call}
 use Rattle.gateway.specs.Assurance.{answer_of, room_of, places_of}
 use Rattle.gateway.specs.History.{past}
@@ -66,7 +66,7 @@ returns g c =
           (record { found = c.classify-found.result; trailed = c.trail-trailed.result; nodes = c.nodes.result })
           (c.classify-found.ensures.answer (past K cap places calls) h)
           (c.trail-trailed.ensures.answer (past K cap places calls) h
-          ∙ ap (λ (n : ℕ). trailVerdict n g.D.Address.width g.S.Address.width (answer_of K (past K cap places calls).built d s)) few)
+          ∙ ap (λ (n : ℕ). trail_verdict n g.D.Address.width g.S.Address.width (answer_of K (past K cap places calls).built d s)) few)
           c.nodes.ensures;
       same = λ short. c.trail-trailed.ensures.same (omega arith) ∙ c.loop-call.invariant.2 short;
     }
