@@ -156,7 +156,8 @@ def large():
     tally("with linear search", grid, [generator.pair(filters) for _ in range(2000)])
 
 
-worked()
-edges()
-reuse()
-large()
+if __name__ == "__main__":
+    worked()
+    edges()
+    reuse()
+    large()

@@ -1,17 +1,17 @@
 -- What a lookup answers is right: the best match, in few visits.
-use Rattle.std.proofs.Common.{◌≡◌, ℕ, ◌+◌, ◌<◌, ◌≤◌, Bool, cond, List, length, Some, None, Ok, Err, Option, Result, Ordering, sym, refl, ap, ◌∙◌, subst, inl, inr, arith, MatchResult}
+use Rattle.std.proofs.Common.{◌≡◌, ℕ, ◌+◌, ◌<◌, ◌≤◌, Bool, cond, List, length, Some, None, Ok, Err, Option, Result, Ordering, sym, refl, ap, subst, inl, inr, arith, MatchResult}
 use Rattle.std.proofs.lemmas.Bool.{cases_lt, lt-ltb, le-ltb}
 use Rattle.kinds.specs.Strings.{Str, bits}
 use Rattle.kinds.specs.Bits.{length_bits}
 use Rattle.filters.specs.Orders.{Apart, Compares, BestMatch}
 use Rattle.filters.specs.Rules.{Rule, better, linear}
 use Rattle.filters.proofs.Bests.{linear_is_best}
-use Rattle.tries.specs.Lookup.{visits}
+use Rattle.tries.specs.Search.{visits}
 use Rattle.tries.proofs.Visits.{visits_few}
 use Rattle.grid.specs.Steps.{named}
 use Rattle.grid.specs.declared.trail.TrailFault.{TrailFault}
 use Rattle.grid.specs.declared.trail.TrailFault.TheVariants.{Places}
-use Rattle.grid.specs.Refusals.{trailVerdict}
+use Rattle.grid.specs.Refusals.{trail_verdict}
 use Rattle.gateway.specs.Assurance.{Answer, NamesTheBest, Right}
 
 -- what a pattern spells is as long as its kind is wide
@@ -38,7 +38,7 @@ answer_right order laws F apart d s wd ws hd hs =
     }
 
 -- a trail is accepted with the answer of the lookup, or it has too few places
-pub verdict_cases : (P : Answer → Type 0) (places wd ws : ℕ) (a : Answer) → P a → MatchResult (trailVerdict places wd ws a) P (λ _. places < wd + ws + 2)
+pub verdict_cases : (P : Answer → Type 0) (places wd ws : ℕ) (a : Answer) → P a → MatchResult (trail_verdict places wd ws a) P (λ _. places < wd + ws + 2)
 verdict_cases P places wd ws a h =
     elim (cases_lt places (wd + ws + 2)) [
       | inl k ↦ subst (λ (t : Bool). MatchResult (cond {A = Result Answer TrailFault} t (Err Places) (Ok a)) P (λ _. places < wd + ws + 2)) (sym (lt-ltb places (wd + ws + 2) k)) k

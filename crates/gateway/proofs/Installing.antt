@@ -1,20 +1,17 @@
 -- Installing: what loading and building leave together.
-use Rattle.std.proofs.Common.{◌≡◌, ℕ, ◌≤◌, Bool, true, false, cond, List, length, Ok, Err, Result, sym, refl, ap, ◌∙◌, subst, MatchResult}
+use Rattle.std.proofs.Common.{◌≡◌, ℕ, Bool, true, false, cond, List, length, Ok, Err, Result, refl, ap, ◌∙◌, subst, MatchResult}
 use Rattle.tables.specs.declared.fault.LoadFault.{LoadFault}
 use Rattle.tries.specs.Shape.{nodes}
-use Rattle.book.specs.declared.book.Book.{Book}
-use Rattle.book.specs.Books.{capacity_of, after}
+use Rattle.book.specs.Books.{after}
 use Rattle.grid.specs.declared.build.BuildFault.{BuildFault}
 use Rattle.grid.specs.declared.build.BuildFault.TheVariants.{Places}
-use Rattle.grid.specs.declared.grid.Grid.{Grid}
 use Rattle.grid.specs.Derived.{Derived}
 use Rattle.grid.specs.Refusals.{too_few}
 use Rattle.gateway.specs.declared.fault.InstallFault.{InstallFault}
-use Rattle.gateway.specs.declared.fault.InstallFault.TheVariants.{Load, Build}
-use Rattle.gateway.specs.declared.gateway.Gateway.{Gateway}
+use Rattle.gateway.specs.declared.fault.InstallFault.TheVariants.{Build}
 use Rattle.gateway.specs.declared.gateway.Installed.{Installed}
 use Rattle.gateway.specs.Calls.{Loads, Builds, Installs, installing}
-use Rattle.gateway.specs.Kinds.{Kinds, ahead, filters_in, loading, filters_of}
+use Rattle.gateway.specs.Kinds.{Kinds, BookOf, GridOf, ahead, filters_in, filters_of}
 
 -- the answer of installing n filters, by that of building
 abbrev pub installed_by : ℕ → Result ℕ BuildFault → Result Installed InstallFault
@@ -30,7 +27,7 @@ grid_by : (P Q : Type 0) {R : Type 0} (n : ℕ) (r : Result ℕ BuildFault) → 
 grid_by P Q n (Ok m) c f = c
 grid_by P Q n (Err e) c f = (c, f e refl)
 
-module _ {D S C D' S' C' : Type 0} (K : Kinds D S C D' S' C') (bytes : List ℕ) (b b' : Book D S C D' S' C') (g g' : Grid D S C D' S' C') where
+module _ {D S C D' S' C' : Type 0} (K : Kinds D S C D' S' C') (bytes : List ℕ) (b b' : BookOf K) (g g' : GridOf K) where
   -- an accepted load and then a build
   pub load_and_build : (n : ℕ) → Loads K bytes (Ok n) b b' → filters_in K b' ≡ filters_of K bytes → (r : Result ℕ BuildFault) → Builds K r b' g g'
       → Installs K bytes (installed_by n r) b b' g g'

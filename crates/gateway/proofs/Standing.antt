@@ -14,24 +14,21 @@ use Rattle.tables.specs.Verdict.{has, entries_verdict, head_verdict}
 use Rattle.tables.proofs.Accepted.{costs_passed}
 use Rattle.tables.proofs.Inverse.{behind_parts}
 use Rattle.tries.specs.Shape.{nodes}
-use Rattle.book.specs.declared.book.Book.{Book}
 use Rattle.book.specs.declared.fault.AddFault.{AddFault}
 use Rattle.book.specs.declared.fault.WithdrawFault.{WithdrawFault}
-use Rattle.book.specs.declared.fault.WithdrawFault.TheVariants.{UnknownLabel}
 use Rattle.book.specs.Books.{capacity_of, add_verdict, withdraw_verdict, after}
 use Rattle.book.specs.Labels.{labels, without}
 use Rattle.book.specs.Loads.{count_after}
 use Rattle.book.proofs.Means.{rules_apart}
 use Rattle.grid.specs.declared.build.BuildFault.{BuildFault}
 use Rattle.grid.specs.declared.build.BuildFault.TheVariants.{Places}
-use Rattle.grid.specs.declared.grid.Grid.{Grid}
 use Rattle.grid.specs.declared.node.Node.{Node}
 use Rattle.grid.specs.Derived.{Derived}
 use Rattle.grid.specs.Refusals.{too_few}
 use Rattle.gateway.specs.Assurance.{Stands}
 use Rattle.gateway.specs.Calls.{Adds, Withdraws, Loads, Builds}
 use Rattle.gateway.specs.History.{Left, adding, crowded, added, withdrawn, loaded, rebuilt, installed}
-use Rattle.gateway.specs.Kinds.{Kinds, labels_of, ahead, rule_in, filters_in, refusal_of, dst_kind, src_kind, cost_kind, loading, filters_of}
+use Rattle.gateway.specs.Kinds.{Kinds, BookOf, GridOf, labels_of, ahead, rule_in, filters_in, refusal_of, dst_kind, src_kind, cost_kind, loading, filters_of}
 use Rattle.gateway.proofs.Whole.{whole_labels, all_read, rules_short, without_length}
 
 -- ---- how many filters there are after an answer
@@ -84,7 +81,7 @@ loaded_room entry rs before behind (Ok m) h u u' c f =
     omega arith
 loaded_room entry rs before behind (Err x) h u u' c f = ap length h
 
-module _ {D S C D' S' C' : Type 0} (K : Kinds D S C D' S' C') (b b' : Book D S C D' S' C') where
+module _ {D S C D' S' C' : Type 0} (K : Kinds D S C D' S' C') (b b' : BookOf K) where
   pub adds_room : (f : Filter D S C) (r : Result (Unit {0}) AddFault) → Adds K f r b b' → length b'.places.now ≡ length b.places.now
   adds_room f r a =
       ap length a.memory
@@ -102,7 +99,7 @@ module _ {D S C D' S' C' : Type 0} (K : Kinds D S C D' S' C') (b b' : Book D S C
       loaded_room (entry_of K.dst_written.number K.src_written.number K.cost_written.number) (decode (dst_kind K) (src_kind K) (cost_kind K) bytes)
       b.places.now b'.places.now r a.memory b.used b'.used a.count b'.fits
 
-module _ {D S C D' S' C' : Type 0} (K : Kinds D S C D' S' C') (l : Left C) (b : Book D S C D' S' C') (g : Grid D S C D' S' C') (h : Stands K l b g) where
+module _ {D S C D' S' C' : Type 0} (K : Kinds D S C D' S' C') (l : Left C) (b : BookOf K) (g : GridOf K) (h : Stands K l b g) where
   -- the filters of the book have the labels of its places
   labels_same : labels (take b.used b.places.now) ≡ labels_of l.book
   labels_same =
@@ -111,10 +108,10 @@ module _ {D S C D' S' C' : Type 0} (K : Kinds D S C D' S' C') (l : Left C) (b : 
       ∙ ap labels_of h.held
 
   -- where the book changes and the grid stays
-  rebooked : (b' : Book D S C D' S' C') (B : List (Rule C)) → filters_in K b' ≡ B → length B ≡ b'.used → Stands K (record { book = B; built = l.built }) b' g
+  rebooked : (b' : BookOf K) (B : List (Rule C)) → filters_in K b' ≡ B → length B ≡ b'.used → Stands K (record { book = B; built = l.built }) b' g
   rebooked b' B e f = record { held = e; whole = f; derived = h.derived; apart = h.apart; short = h.short }
 
-  pub adds_leaves : (places : ℕ) (b' : Book D S C D' S' C') (f : Filter D S C) (r : Result (Unit {0}) AddFault) → Adds K f r b b'
+  pub adds_leaves : (places : ℕ) (b' : BookOf K) (f : Filter D S C) (r : Result (Unit {0}) AddFault) → Adds K f r b b'
       → filters_in K b' ≡ after r (filters_in K b ++ rule_in K f ∷ []) (filters_in K b)
       → Stands K (record { book = added K (capacity_of (length b.places.now)) places l.book f; built = l.built }) b' g
   adds_leaves places b' f r a m =
@@ -126,7 +123,7 @@ module _ {D S C D' S' C' : Type 0} (K : Kinds D S C D' S' C') (l : Left C) (b : 
       (ap (λ (z : Result (Unit {0}) AddFault). length (after z (l.book ++ rule_in K f ∷ []) l.book)) (sym e)
       ∙ added_length r l.book (rule_in K f) b.used h.whole ∙ sym a.count)
 
-  pub withdraws_leaves : (places : ℕ) (b' : Book D S C D' S' C') (n : ℕ) (r : Result (Unit {0}) WithdrawFault) → Withdraws K n r b b'
+  pub withdraws_leaves : (places : ℕ) (b' : BookOf K) (n : ℕ) (r : Result (Unit {0}) WithdrawFault) → Withdraws K n r b b'
       → filters_in K b' ≡ after r (without (λ f. f.label) n (filters_in K b)) (filters_in K b)
       → Stands K (record { book = withdrawn K (capacity_of (length b.places.now)) places l.book n; built = l.built }) b' g
   withdraws_leaves places b' n r a m =
@@ -150,12 +147,12 @@ module _ {D S C D' S' C' : Type 0} (K : Kinds D S C D' S' C') (l : Left C) (b : 
       ∙ k
 
   -- and so has the book that it was loaded into
-  loaded_whole : (b' : Book D S C D' S' C') (bytes : List ℕ) (r : Result ℕ LoadFault) → Loads K bytes r b b' → (n : ℕ) → r ≡ Ok n → length (filters_of K bytes) ≡ n
+  loaded_whole : (b' : BookOf K) (bytes : List ℕ) (r : Result ℕ LoadFault) → Loads K bytes r b b' → (n : ℕ) → r ≡ Ok n → length (filters_of K bytes) ≡ n
   loaded_whole b' bytes r a n q =
       table_length (capacity_of (length b.places.now)) bytes n (sym a.answer ∙ q)
       (decoded_length (entry_of K.dst_written.number K.src_written.number K.cost_written.number) (decode (dst_kind K) (src_kind K) (cost_kind K) bytes) b.places.now b'.places.now r a.memory b.used b'.used a.count b'.fits n q)
 
-  pub loads_leaves : (places : ℕ) (b' : Book D S C D' S' C') (bytes : List ℕ) (r : Result ℕ LoadFault) → Loads K bytes r b b'
+  pub loads_leaves : (places : ℕ) (b' : BookOf K) (bytes : List ℕ) (r : Result ℕ LoadFault) → Loads K bytes r b b'
       → filters_in K b' ≡ after r (filters_of K bytes) (filters_in K b)
       → Stands K (record { book = loaded K (capacity_of (length b.places.now)) places l.book bytes; built = l.built }) b' g
   loads_leaves places b' bytes r a m =
@@ -171,7 +168,7 @@ module _ {D S C D' S' C' : Type 0} (K : Kinds D S C D' S' C') (l : Left C) (b : 
 
   -- ---- building, given that no address spells more bits than its kind has
   module _ (dst-long : (x : D') → length (K.dst.spells x) ≤ K.dst.width) (src-long : (x : S') → length (K.src.spells x) ≤ K.src.width) where
-    built_by : (g' : Grid D S C D' S' C') (r : Result ℕ BuildFault) (t : Bool) → r ≡ cond t (Err Places) (Ok (nodes (filters_in K b)))
+    built_by : (g' : GridOf K) (r : Result ℕ BuildFault) (t : Bool) → r ≡ cond t (Err Places) (Ok (nodes (filters_in K b)))
         → MatchResult r (λ _. Derived (ahead K) (filters_in K b) g'.nodes.now g'.used) (λ _. g'.nodes.now ≡ g.nodes.now)
         → g'.used ≡ after r (nodes (filters_in K b)) g.used
         → Stands K (record { book = l.book; built = cond t l.built l.book }) b g'
@@ -199,7 +196,7 @@ module _ {D S C D' S' C' : Type 0} (K : Kinds D S C D' S' C') (l : Left C) (b : 
               (rules_short K.dst.spells K.src.spells K.cost_written.reads K.dst.width K.src.width dst-long src-long (take b.used b.places.now));
         }
 
-    pub builds_leaves : (cap : ℕ) (g' : Grid D S C D' S' C') (r : Result ℕ BuildFault) → Builds K r b g g' → Stands K (rebuilt K cap (length g.nodes.now) l) b g'
+    pub builds_leaves : (cap : ℕ) (g' : GridOf K) (r : Result ℕ BuildFault) → Builds K r b g g' → Stands K (rebuilt K cap (length g.nodes.now) l) b g'
     builds_leaves cap g' r a =
         let k : too_few (length g.nodes.now) b.used K.dst.width K.src.width ≡ crowded K cap (length g.nodes.now) l.book =
         ap (λ (n : ℕ). too_few (length g.nodes.now) n K.dst.width K.src.width) (sym h.whole) in
@@ -207,7 +204,7 @@ module _ {D S C D' S' C' : Type 0} (K : Kinds D S C D' S' C') (l : Left C) (b : 
         (a.answer ∙ ap (λ (t : Bool). cond {A = Result ℕ BuildFault} t (Err Places) (Ok (nodes (filters_in K b)))) k) a.memory a.count
 
 -- ---- installing
-module _ {D S C D' S' C' : Type 0} (K : Kinds D S C D' S' C') (l : Left C) (b b' : Book D S C D' S' C') (g : Grid D S C D' S' C') (h : Stands K l b g) (bytes : List ℕ) where
+module _ {D S C D' S' C' : Type 0} (K : Kinds D S C D' S' C') (l : Left C) (b b' : BookOf K) (g : GridOf K) (h : Stands K l b g) (bytes : List ℕ) where
   -- a refused load leaves all as it was
   pub refused_leaves : (e : LoadFault) → Loads K bytes (Err e) b b' → filters_in K b' ≡ filters_in K b
       → Stands K (installed K (capacity_of (length b.places.now)) (length g.nodes.now) l bytes) b' g
@@ -219,7 +216,7 @@ module _ {D S C D' S' C' : Type 0} (K : Kinds D S C D' S' C') (l : Left C) (b b'
 
   -- an accepted one is followed by a build
   pub installed_leaves : ((x : D') → length (K.dst.spells x) ≤ K.dst.width) → ((x : S') → length (K.src.spells x) ≤ K.src.width)
-      → (n : ℕ) → Loads K bytes (Ok n) b b' → filters_in K b' ≡ filters_of K bytes → (g' : Grid D S C D' S' C') (r : Result ℕ BuildFault) → Builds K r b' g g'
+      → (n : ℕ) → Loads K bytes (Ok n) b b' → filters_in K b' ≡ filters_of K bytes → (g' : GridOf K) (r : Result ℕ BuildFault) → Builds K r b' g g'
       → Stands K (installed K (capacity_of (length b.places.now)) (length g.nodes.now) l bytes) b' g'
   installed_leaves dst-long src-long n a m g' r build =
       let cap = capacity_of (length b.places.now) in

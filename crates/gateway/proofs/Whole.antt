@@ -1,11 +1,10 @@
 -- Places that each hold a filter: they hold as many as there are places, under the same labels.
-use Rattle.std.proofs.Common.{◌≡◌, ℕ, zero, suc, ◌+◌, ◌≤◌, Bool, true, false, cond, ◌||◌, eqb, List, [], ◌∷◌, ◌++◌, map, length, take, is_some, Some, None, Option, sym, refl, ap, ◌∙◌, subst, inl, inr, arith}
-use Rattle.std.proofs.lemmas.Bool.{both_ways, cases_Bool, or_parts}
+use Rattle.std.proofs.Common.{◌≡◌, ℕ, zero, suc, ◌+◌, ◌≤◌, true, false, eqb, List, [], ◌∷◌, ◌++◌, map, length, take, is_some, Some, None, Option, refl, ap, inl, inr, arith}
+use Rattle.std.proofs.lemmas.Bool.{both_ways, cases_Bool}
 use Rattle.kinds.specs.Strings.{Str}
 use Rattle.filters.specs.declared.filter.Record.{Record}
 use Rattle.filters.specs.Meaning.{held_at, rules}
 use Rattle.filters.specs.Orders.{Each}
-use Rattle.filters.specs.Rules.{Rule}
 use Rattle.tables.specs.Verdict.{has}
 use Rattle.book.specs.Labels.{labels, without}
 use Rattle.gateway.specs.Kinds.{labels_of}

@@ -1,19 +1,17 @@
 -- The assurance: what holds of every lookup after every history.
-use Rattle.std.specs.Prelude.{◌≡◌, ℕ, ◌+◌, ◌*◌, ◌≤◌, false, List, length, take, Some, None, Option}
+use Rattle.std.specs.Prelude.{◌≡◌, ℕ, ◌+◌, ◌*◌, ◌≤◌, false, List, length, Some, None, Option}
 use Rattle.std.specs.declared.cmp.Ordering.{Ordering}
 use Rattle.kinds.specs.Strings.{Str}
 use Rattle.filters.specs.declared.directive.Directive.{Directive}
 use Rattle.filters.specs.Orders.{In, Each, Apart, Alike, Best}
 use Rattle.filters.specs.Rules.{Rule, linear, matches}
 use Rattle.tries.specs.Shape.{nodes}
-use Rattle.tries.specs.Lookup.{visits, back_visits}
-use Rattle.book.specs.declared.book.Book.{Book}
+use Rattle.tries.specs.Search.{visits, back_visits}
 use Rattle.book.specs.Books.{capacity_of}
-use Rattle.grid.specs.declared.grid.Grid.{Grid}
 use Rattle.grid.specs.Derived.{Derived}
-use Rattle.grid.specs.Refusals.{trailVerdict}
+use Rattle.grid.specs.Refusals.{trail_verdict}
 use Rattle.grid.specs.Steps.{named}
-use Rattle.gateway.specs.Kinds.{Kinds, ahead, filters_in}
+use Rattle.gateway.specs.Kinds.{Kinds, BookOf, GridOf, ahead, filters_in}
 use Rattle.gateway.specs.declared.gateway.Gateway.{Gateway}
 use Rattle.gateway.specs.declared.history.Call.{Call}
 use Rattle.gateway.specs.declared.history.Outcome.{Outcome}
@@ -48,26 +46,30 @@ module _ {D S C D' S' C' : Type 0} (K : Kinds D S C D' S' C') where
 
   -- book and grid stand as a history leaves them: each place used holds a filter of the book, and the nodes are derived from
   -- the built filters
-  pub record Stands (l : Left C) (b : Book D S C D' S' C') (g : Grid D S C D' S' C') : Type 0 where
+  pub record Stands (l : Left C) (b : BookOf K) (g : GridOf K) : Type 0 where
     pub held : filters_in K b ≡ l.book
     pub whole : length l.book ≡ b.used
     pub derived : Derived (ahead K) l.built g.nodes.now g.used
     pub apart : Apart l.built
     pub short : Each (λ f. (length f.destination ≤ K.dst.width) × (length f.source ≤ K.src.width)) l.built
 
+  -- a gateway of these kinds
+  abbrev pub GatewayOf : Type 0
+  GatewayOf = Gateway D S C D' S' C' K.dst K.dst_written K.dst_plain K.src K.src_written K.src_plain K.cost K.cost_written K.cost_plain
+
   -- a gateway stands as a history leaves it
-  abbrev pub After : Left C → Gateway D S C D' S' C' → Type 0
+  abbrev pub After : Left C → GatewayOf → Type 0
   After l w = Stands l w.book.now w.grid.now
 
   -- how many filters a gateway has room for, and its node places
-  abbrev pub room_of : Gateway D S C D' S' C' → ℕ
+  abbrev pub room_of : GatewayOf → ℕ
   room_of w = capacity_of (length w.book.now.places.now)
 
-  abbrev pub places_of : Gateway D S C D' S' C' → ℕ
+  abbrev pub places_of : GatewayOf → ℕ
   places_of w = length w.grid.now.nodes.now
 
   -- a call takes a gateway that stands as a history leaves it to one that stands as the history with this call leaves it
-  pub record Follows (c : Call D S C) (w w' : Gateway D S C D' S' C') : Type 0 where
+  pub record Follows (c : Call D S C) (w w' : GatewayOf) : Type 0 where
     pub room : room_of w' ≡ room_of w
     pub places : places_of w' ≡ places_of w
     pub leaves : (l : Left C) → After l w → After (step K (room_of w) (places_of w) l c) w'
@@ -81,7 +83,7 @@ module _ {D S C D' S' C' : Type 0} (K : Kinds D S C D' S' C') where
     pub apart : Apart l.built
     pub found : Right K.cost.order K.dst.width K.src.width l.built d s o.found
     pub equals : o.found ≡ answer_of l.built d s
-    pub trailed : o.trailed ≡ trailVerdict places K.dst.width K.src.width o.found
+    pub trailed : o.trailed ≡ trail_verdict places K.dst.width K.src.width o.found
     pub counted : o.nodes ≡ nodes l.built
     pub bounded : o.nodes ≤ 1 + length l.built * (K.dst.width + K.src.width + 1)
 

@@ -2,6 +2,7 @@
 use Rattle.std.specs.Prelude.{ℕ, Bool, List, map, take, Result}
 use Rattle.kinds.specs.declared.address.Address as Address
 use Rattle.kinds.specs.declared.cost.Cost as Cost
+use Rattle.kinds.specs.declared.plain.Plain as Plain
 use Rattle.kinds.specs.declared.written.Written as Written
 use Rattle.filters.specs.declared.fault.FilterFault.{FilterFault}
 use Rattle.filters.specs.declared.filter.Filter.{Filter}
@@ -12,20 +13,43 @@ use Rattle.filters.specs.Rules.{Rule, better}
 use Rattle.tables.specs.declared.fault.LoadFault.{LoadFault}
 use Rattle.tables.specs.Format.{Kind, kind}
 use Rattle.book.specs.declared.book.Book.{Book}
+use Rattle.grid.specs.declared.grid.Grid.{Grid}
 use Rattle.book.specs.Loads.{load_verdict, table_rules}
 
 -- what the traits say of the kinds of destination, source and cost
 pub record Kinds (D S C D' S' C' : Type 0) : Type 1 where
   pub dst : Address.Ghosts D D'
   pub dst_written : Written.Ghosts D D'
+  pub dst_plain : Plain.Ghosts D'
   pub src : Address.Ghosts S S'
   pub src_written : Written.Ghosts S S'
+  pub src_plain : Plain.Ghosts S'
   pub cost : Cost.Ghosts C C'
   pub cost_written : Written.Ghosts C C'
+  pub cost_plain : Plain.Ghosts C'
 
-abbrev pub kinds_of : {D S C D' S' C' : Type 0} → Address.Ghosts D D' → Written.Ghosts D D' → Address.Ghosts S S' → Written.Ghosts S S' → Cost.Ghosts C C' → Written.Ghosts C C' → Kinds D S C D' S' C'
-kinds_of dst dst_written src src_written cost cost_written =
-    record { dst = dst; dst_written = dst_written; src = src; src_written = src_written; cost = cost; cost_written = cost_written }
+abbrev pub kinds_of : {D S C D' S' C' : Type 0} → Address.Ghosts D D' → Written.Ghosts D D' → Plain.Ghosts D' → Address.Ghosts S S' → Written.Ghosts S S' → Plain.Ghosts S'
+    → Cost.Ghosts C C' → Written.Ghosts C C' → Plain.Ghosts C' → Kinds D S C D' S' C'
+kinds_of dst dst_written dst_plain src src_written src_plain cost cost_written cost_plain =
+    record {
+      dst = dst;
+      dst_written = dst_written;
+      dst_plain = dst_plain;
+      src = src;
+      src_written = src_written;
+      src_plain = src_plain;
+      cost = cost;
+      cost_written = cost_written;
+      cost_plain = cost_plain;
+    }
+
+-- a book of these kinds
+abbrev pub BookOf : {D S C D' S' C' : Type 0} → Kinds D S C D' S' C' → Type 0
+BookOf {D} {S} {C} {D'} {S'} {C'} K = Book D S C D' S' C' K.dst K.dst_written K.dst_plain K.src K.src_written K.src_plain K.cost K.cost_written K.cost_plain
+
+-- a grid of these kinds
+abbrev pub GridOf : {D S C D' S' C' : Type 0} → Kinds D S C D' S' C' → Type 0
+GridOf {D} {S} {C} {D'} {S'} {C'} K = Grid D S C D' S' C' K.dst K.dst_written K.dst_plain K.src K.src_written K.src_plain K.cost K.cost_written K.cost_plain
 
 -- the labels of filters, in their order
 abbrev pub labels_of : {C : Type 0} → List (Rule C) → List ℕ
@@ -45,7 +69,7 @@ module _ {D S C D' S' C' : Type 0} (K : Kinds D S C D' S' C') where
   rules_in = rules K.dst.spells K.src.spells K.cost_written.reads
 
   -- the rules of the filters that are in a book
-  abbrev pub filters_in : Book D S C D' S' C' → List (Rule C)
+  abbrev pub filters_in : BookOf K → List (Rule C)
   filters_in b = rules_in (take b.used b.places.now)
 
   -- the first refusal of a filter; `used` says whether its label is in use already

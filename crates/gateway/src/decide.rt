@@ -17,8 +17,8 @@ use packets::PacketFault;
 impl<'b, 'g, 'f, 'n, C: Cost> Gateway<'b, 'g, 'f, 'n, Ipv4, Ipv4, C> {
     // Which built filter decides a packet, by its destination and its source address. A refused packet gives its fault.
     pub fn decide(&self, packet: &[u8]) -> Result<(Option<(u16, Directive)>, u32), PacketFault>
-        ensures answer { (l : Left C) → After (by_address C.Cost C.Written) l self.now → result ≡ decided (λ p. answer_of (by_address C.Cost C.Written) l.built (goal p) (origin p)) (datagram packet.now) }
-        ensures right { (l : Left C) → After (by_address C.Cost C.Written) l self.now → Decides (λ p a. Right C.Cost.order 32 32 l.built (goal p) (origin p) a) (datagram packet.now) result }
+        ensures answer { (l : Left C) → After (by_address C.Cost.own C.Written C.Pattern.Plain) l self.now → result ≡ decided (λ p. answer_of (by_address C.Cost.own C.Written C.Pattern.Plain) l.built (goal p) (origin p)) (datagram packet.now) }
+        ensures right { (l : Left C) → After (by_address C.Cost.own C.Written C.Pattern.Plain) l self.now → Decides (λ p a. Right C.Cost.order 32 32 l.built (goal p) (origin p) a) (datagram packet.now) result }
     {
         let read = packets::read(packet)?;
         Ok(self.classify(&read.destination(), &read.source()))
@@ -32,8 +32,8 @@ impl<'b, 'g, 'f, 'n, C: Cost> Gateway<'b, 'g, 'f, 'n, Ipv4, Socket, C> {
         socket: &Socket,
         packet: &[u8],
     ) -> Result<(Option<(u16, Directive)>, u32), PacketFault>
-        ensures answer { (l : Left C) → After (by_socket C.Cost C.Written) l self.now → result ≡ decided (λ p. answer_of (by_socket C.Cost C.Written) l.built (goal p) (socketAddress.string socket.now)) (datagram packet.now) }
-        ensures right { (l : Left C) → After (by_socket C.Cost C.Written) l self.now → Decides (λ p a. Right C.Cost.order 32 16 l.built (goal p) (socketAddress.string socket.now) a) (datagram packet.now) result }
+        ensures answer { (l : Left C) → After (by_socket C.Cost.own C.Written C.Pattern.Plain) l self.now → result ≡ decided (λ p. answer_of (by_socket C.Cost.own C.Written C.Pattern.Plain) l.built (goal p) (socketAddress.string socket.now)) (datagram packet.now) }
+        ensures right { (l : Left C) → After (by_socket C.Cost.own C.Written C.Pattern.Plain) l self.now → Decides (λ p a. Right C.Cost.order 32 16 l.built (goal p) (socketAddress.string socket.now) a) (datagram packet.now) result }
     {
         let read = packets::read(packet)?;
         Ok(self.classify(&read.destination(), socket))

@@ -46,7 +46,7 @@ fn make_call<D: Address, S: Address, C: Cost>(
     call: &Call<D, S, C>,
     trail: &mut [u32],
 )
-    ensures history { Follows (kinds_of D.Address D.Written S.Address S.Written C.Cost C.Written) call.now gateway.old gateway.new }
+    ensures history { Follows (kinds_of D.Address.own D.Written D.Pattern.Plain S.Address.own S.Written S.Pattern.Plain C.Cost.own C.Written C.Pattern.Plain) call.now gateway.old gateway.new }
     ensures same { length trail.old < D.Address.width + S.Address.width + 2 → trail.new ≡ trail.old }
 {
     match call {
@@ -84,7 +84,7 @@ pub fn replay<D: Address, S: Address, C: Cost>(
     destination: &D,
     source: &S,
 ) -> Outcome
-    ensures assured { Assured (kinds_of D.Address D.Written S.Address S.Written C.Cost C.Written) (past (kinds_of D.Address D.Written S.Address S.Written C.Cost C.Written) (capacity_of (length places.old)) (length nodes.old) calls.now) (D.Address.string destination.now) (S.Address.string source.now) (length trail.old) result }
+    ensures assured { Assured (kinds_of D.Address.own D.Written D.Pattern.Plain S.Address.own S.Written S.Pattern.Plain C.Cost.own C.Written C.Pattern.Plain) (past (kinds_of D.Address.own D.Written D.Pattern.Plain S.Address.own S.Written S.Pattern.Plain C.Cost.own C.Written C.Pattern.Plain) (capacity_of (length places.old)) (length nodes.old) calls.now) (D.Address.string destination.now) (S.Address.string source.now) (length trail.old) result }
     ensures same { length trail.old < D.Address.width + S.Address.width + 2 → trail.new ≡ trail.old }
 {
     let mut book = Book::new(places);
@@ -117,7 +117,7 @@ pub fn replay_two<D: Address, S: Address, C: Cost>(
     destination: &D,
     source: &S,
 ) -> (Outcome, Outcome)
-    ensures assurance { Assurance (kinds_of D.Address D.Written S.Address S.Written C.Cost C.Written) (past (kinds_of D.Address D.Written S.Address S.Written C.Cost C.Written) (capacity_of (length places.old)) (length nodes.old) calls.now) (past (kinds_of D.Address D.Written S.Address S.Written C.Cost C.Written) (capacity_of (length other_places.old)) (length other_nodes.old) other_calls.now) (D.Address.string destination.now) (S.Address.string source.now) (length trail.old) (length other_trail.old) result }
+    ensures assurance { Assurance (kinds_of D.Address.own D.Written D.Pattern.Plain S.Address.own S.Written S.Pattern.Plain C.Cost.own C.Written C.Pattern.Plain) (past (kinds_of D.Address.own D.Written D.Pattern.Plain S.Address.own S.Written S.Pattern.Plain C.Cost.own C.Written C.Pattern.Plain) (capacity_of (length places.old)) (length nodes.old) calls.now) (past (kinds_of D.Address.own D.Written D.Pattern.Plain S.Address.own S.Written S.Pattern.Plain C.Cost.own C.Written C.Pattern.Plain) (capacity_of (length other_places.old)) (length other_nodes.old) other_calls.now) (D.Address.string destination.now) (S.Address.string source.now) (length trail.old) (length other_trail.old) result }
     ensures same { length trail.old < D.Address.width + S.Address.width + 2 → trail.new ≡ trail.old }
     ensures other { length other_trail.old < D.Address.width + S.Address.width + 2 → other_trail.new ≡ other_trail.old }
 {

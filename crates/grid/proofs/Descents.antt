@@ -8,6 +8,7 @@ use Rattle.tries.specs.Prefixes.{any, fronts, until, further, longest}
 use Rattle.tries.specs.Shape.{has_dst, has_src}
 use Rattle.tries.proofs.Longest.{longest_some, longest_never}
 use Rattle.tries.proofs.Finds.{dst_front, src_dst}
+use Rattle.tries.proofs.Visits.{until_map}
 use Rattle.grid.specs.declared.node.Node.{Node}
 use Rattle.grid.specs.declared.search.Descent.{Descent}
 use Rattle.grid.specs.Nodes.{child_of, or_else, root_of}
@@ -34,6 +35,10 @@ until_none q (b ∷ t) e = rw e refl
 -- where the empty string passes, it counts, and then those behind the next bit
 pub until_some : (q : Str → Bool) (b : Bool) (t : Str) → q [] ≡ true → length (until q (fronts (b ∷ t))) ≡ suc (length (until (λ u. q (b ∷ u)) (fronts t)))
 until_some q b t e = rw e (ap suc (until_behind q b (fronts t)))
+
+-- and it comes first, before those behind the next bit
+pub until_first : (q : Str → Bool) (b : Bool) (t : Str) → q [] ≡ true → until q (fronts (b ∷ t)) ≡ [] ∷ map (λ u. b ∷ u) (until (λ u. q (b ∷ u)) (fronts t))
+until_first q b t e = rw e (ap {B = List Str} (λ us. [] ∷ us) (until_map q (λ (u : Str). b ∷ u) (fronts t)))
 
 -- what stands at the string, where there is one
 abbrev pub found : (Str → Option ℕ) → Option Str → Option ℕ

@@ -1,7 +1,10 @@
--- What a search over the nodes of a derived grid gives: the choice of linear search, and the visits of the definition.
-use Rattle.std.proofs.Common.{◌≡◌, ℕ, ◌+◌, ◌-◌, ◌<◌, Bool, true, false, cond, List, [], ◌∷◌, map, length, replicate, Some, None, Option, sym, refl, ap, ◌∙◌, subst, arith}
+-- What a search over the nodes of a derived grid gives: the choice of linear search, the visits of the definition, and their places
+-- as notes.
+use Rattle.std.proofs.Common.{◌≡◌, ℕ, ◌+◌, ◌-◌, ◌<◌, ◌≤◌, Bool, true, false, cond, List, [], ◌∷◌, ◌++◌, map, length, replicate, Some, None, Option, sym, refl, ap, ◌∙◌, subst, append-nil, arith}
 use Rattle.std.proofs.lemmas.Bool.{both_ways}
-use Rattle.std.proofs.lemmas.List.{nil_from_length}
+use Rattle.std.proofs.lemmas.List.{nil_from_length, length-map, map-append}
+use Rattle.std.proofs.lemmas.List.Edits.{sets}
+use Rattle.std.proofs.lemmas.Simd.{map-map}
 use Rattle.kinds.specs.Strings.{Str}
 use Rattle.filters.specs.Rules.{Rule, scan, linear}
 use Rattle.filters.specs.Orders.{Apart, Order}
@@ -18,11 +21,13 @@ use Rattle.grid.specs.declared.search.Descent.{Descent}
 use Rattle.grid.specs.declared.search.Walk.{Walk}
 use Rattle.grid.specs.Nodes.{node_at, root_of, kept_of, or_else}
 use Rattle.grid.specs.Derived.{Key, destination, source, key_eq, later, place, Rooted, node_of, Derived}
-use Rattle.grid.specs.Steps.{along, entered, step_down, met, step_on, named, told}
+use Rattle.grid.specs.Steps.{along, entered, step_down, places_down, met, step_on, places_on, named, told}
+use Rattle.grid.specs.Trails.{visited, Noted}
 use Rattle.grid.proofs.Places.{place_has, node_at_lem}
 use Rattle.grid.proofs.Ranks.{told_keep, keep_scan}
 use Rattle.grid.proofs.Walks.{Crossed, cross_is, else_none}
 use Rattle.grid.proofs.Descents.{found, Fallen, fall_is}
+use Rattle.grid.proofs.Trails.{sets_append, length_visited, noted_from, traced_down, traced_on}
 
 -- ---- no filters
 
@@ -41,6 +46,14 @@ module _ {C : Type 0} (lt : Rule C → Rule C → Bool) (F : List (Rule C)) (N :
 
   pub unbuilt_visits : 0 ≡ visits F d s
   unbuilt_visits = sym (ap (λ (G : List (Rule C)). visits G d s) bare_filters ∙ (no_filters lt d s).1)
+
+-- nothing is visited, and nothing noted
+module _ {C : Type 0} (lt : Rule C → Rule C → Bool) (F : List (Rule C)) (N : List Node) (used : ℕ) (g : Derived lt F N used) (none : used ≡ 0) (d s : Str) where
+  pub unbuilt_noted : (m : List ℕ) → Noted g.keys F d s m m
+  unbuilt_noted m =
+      let v = unbuilt_visits lt F N (subst (λ (n : ℕ). Derived lt F N n) none g) d s in
+      let empty = nil_from_length (visited F d s) (length_visited F d s ∙ sym v) in
+      noted_from g.keys F d s [] m m refl (ap (map (λ k. place k g.keys)) (sym empty)) (omega arith)
 
 -- ---- some filters
 
@@ -63,6 +76,21 @@ module _ {C : Type 0} (lt : Rule C → Rule C → Bool) (F : List (Rule C)) (N :
       (fall_is lt F g.keys g.whole N (replicate (length N - used) Empty) g.nodes d [] (λ D. has_src F D []) (has_dst F) (λ D. place (source D []) g.keys)
       (record { leads = λ u. refl; stands = λ u. refl; place_of = λ u. refl })
       (entered N None 0 0) None p (ap (λ (n : Node). or_else (root_of n) None) (node_of_lem (destination []) 0 p)))
+
+  -- the notes are the places of the destination nodes on the way
+  down_places : map Some (places_down N (entered N None 0 0) d) ≡ map (λ k. place k g.keys) (map destination (way (has_dst F) d))
+  down_places =
+      let l = g.long in
+      traced_down lt F g.keys g.whole N (replicate (length N - used) Empty) g.nodes d [] (entered N None 0 0) (root_place g.keys g.rooted (omega arith))
+      ∙ sym (map-map (λ k. place k g.keys) destination (way (has_dst F) d))
+
+  -- and then those of the source nodes, where there are any
+  then_places : (qs : List ℕ) → map Some qs ≡ map (λ k. place (source k.0 k.1) g.keys) (path (has_src F) d s)
+      → map Some (places_down N (entered N None 0 0) d ++ qs) ≡ map (λ k. place k g.keys) (visited F d s)
+  then_places qs h =
+      map-append Some (places_down N (entered N None 0 0) d) qs
+      ∙ (λ i. down_places i ++ (h ∙ sym (map-map (λ k. place k g.keys) (λ (k : Str × Str). source k.0 k.1) (path (has_src F) d s))) i)
+      ∙ sym (map-append (λ k. place k g.keys) (map destination (way (has_dst F) d)) (map (λ k. source k.0 k.1) (path (has_src F) d s)))
 
   down_visits : e.visits ≡ length (way (has_dst F) d)
   down_visits = let v = fallen.visits in omega arith
@@ -95,6 +123,13 @@ module _ {C : Type 0} (lt : Rule C → Rule C → Bool) (F : List (Rule C)) (N :
       let p : length (path (has_src F) d s) ≡ 0 = ap (λ (o : Option Str). length (led o (λ D. walk (has_src F) D [] s))) (no_root h) in
       omega arith
 
+  pub rootless_noted : e.root ≡ None → (before after : List ℕ) → after ≡ sets before 0 (places_down N (entered N None 0 0) d)
+      → e.visits ≤ length before → Noted g.keys F d s before after
+  rootless_noted h before after notes room =
+      let v = rootless_visits h in
+      noted_from g.keys F d s (places_down N (entered N None 0 0) d ++ []) before after (notes ∙ ap (sets before 0) (sym (append-nil (places_down N (entered N None 0 0) d))))
+      (then_places [] (ap (λ (o : Option Str). map (λ k. place (source k.0 k.1) g.keys) (led o (λ D. walk (has_src F) D [] s))) (sym (no_root h)))) (omega arith)
+
   pub rootless_best : Order lt → Apart F → e.root ≡ None → None ≡ named (linear lt F d s)
   rootless_best ord apart h =
       ap named (sym (ap (λ (o : Option Str). scan lt None (map (kept lt F) (led o (λ D. walk (has_src F) D [] s)))) (no_root h)) ∙ finds_the_best lt ord F apart d s)
@@ -112,6 +147,24 @@ module _ {C : Type 0} (lt : Rule C → Rule C → Bool) (F : List (Rule C)) (N :
 
     pub walked_visits : e.visits + w.visits ≡ visits F d s
     walked_visits = let v = down_visits in let c = crossed.visits in omega arith
+
+    walk_places : map Some (places_on N (met N None 0 n) s) ≡ map (λ k. place (source k.0 k.1) g.keys) (path (has_src F) d s)
+    walk_places =
+        let m = a_root n h in
+        traced_on lt F g.keys g.whole N (replicate (length N - used) Empty) g.nodes s m.0 [] (met N None 0 n) m.2
+        ∙ ap (λ (o : Option Str). map (λ k. place (source k.0 k.1) g.keys) (led o (λ D. walk (has_src F) D [] s))) (sym m.1)
+
+    pub walked_noted : (before middle after : List ℕ) → middle ≡ sets before 0 (places_down N (entered N None 0 0) d)
+        → after ≡ sets middle e.visits (places_on N (met N None 0 n) s) → e.visits + w.visits ≤ length before → Noted g.keys F d s before after
+    walked_noted before middle after first then room =
+        let ps = places_down N (entered N None 0 0) d in
+        let qs = places_on N (met N None 0 n) s in
+        let v = walked_visits in
+        let l : e.visits ≡ 0 + length ps =
+        (let a = down_visits in
+        let b = sym (length-map ps Some) ∙ ap length down_places ∙ length-map (map destination (way (has_dst F) d)) (λ k. place k g.keys) ∙ length-map (way (has_dst F) d) destination in
+        omega arith) in
+        noted_from g.keys F d s (ps ++ qs) before after (then ∙ (λ i. sets (first i) (l i) qs) ∙ sym (sets_append ps qs before 0)) (then_places qs walk_places) (omega arith)
 
     pub walked_best : Order lt → Apart F → told w.best ≡ named (linear lt F d s)
     walked_best ord apart =

@@ -5,6 +5,7 @@ pub mod Places
 pub mod Ranks
 pub mod Walks
 pub mod Descents
+pub mod Trails
 pub mod Found
 pub mod Numbering
 pub mod Growth

@@ -6,3 +6,4 @@ pub mod Build
 pub mod Spans
 pub mod Finish
 pub mod Refusals
+pub mod Trails

@@ -1,5 +1,5 @@
 -- A search of nodes in memory, step by step.
-use Rattle.std.specs.Prelude.{ℕ, ◌+◌, Bool, List, [], ◌∷◌, Some, None, Option}
+use Rattle.std.specs.Prelude.{ℕ, ◌+◌, Bool, List, [], ◌∷◌, map, Some, None, Option, slice_set}
 use Rattle.std.specs.Option.{option_map}
 use Rattle.kinds.specs.Strings.{Str}
 use Rattle.filters.specs.declared.directive.Directive.{Directive}
@@ -20,6 +20,23 @@ abbrev pub along : {X : Type 0} → (X → Bool → Option X) → X → Str → 
 along step x [] = x
 along step x (b ∷ r) = onward (step x b) x (λ y. along step y r)
 
+-- what is met from a step that leads on, or nothing
+abbrev pub beyond : {X : Type 0} → Option X → (X → List X) → List X
+beyond None more = []
+beyond (Some y) more = more y
+
+-- what steps along the bits of a string lead to, one after the other
+abbrev pub trace : {X : Type 0} → (X → Bool → Option X) → X → Str → List X
+trace step x [] = []
+trace step x (b ∷ r) = beyond (step x b) (λ y. y ∷ trace step y r)
+
+-- ---- notes
+
+-- p, where there is one, is written at place i; a place behind the end of the memory takes nothing
+abbrev pub jotted : List ℕ → ℕ → Option ℕ → List ℕ
+jotted m i None = m
+jotted m i (Some p) = slice_set m i p
+
 -- ---- down the destination trie
 
 -- the destination node at p is visited: its source root, where it has one, takes the place of the last
@@ -30,6 +47,10 @@ entered N root n p = record { at = p; root = or_else (root_of (node_at N p)) roo
 abbrev pub step_down : List Node → Descent → Bool → Option Descent
 step_down N w b = option_map (entered N w.root w.visits) (child_of (node_at N w.at) b)
 
+-- the places of the nodes that a descent visits from w on, along the bits of a string
+abbrev pub places_down : List Node → Descent → Str → List ℕ
+places_down N w t = w.at ∷ map (λ v. v.at) (trace (step_down N) w t)
+
 -- ---- along the source tries
 
 -- the source node at p is visited: the better of what it keeps and what was kept so far is kept
@@ -39,6 +60,10 @@ met N best n p = record { at = p; best = pick_kept best (kept_of (node_at N p));
 -- one step on, by a bit: to the child or along the switch
 abbrev pub step_on : List Node → Walk → Bool → Option Walk
 step_on N w b = option_map (met N w.best w.visits) (next_of (node_at N w.at) b)
+
+-- the places of the nodes that a walk visits from w on, along the bits of a string
+abbrev pub places_on : List Node → Walk → Str → List ℕ
+places_on N w t = w.at ∷ map (λ v. v.at) (trace (step_on N) w t)
 
 -- ---- the answer
 

@@ -47,4 +47,11 @@ impl<'m, D: Address, S: Address, C: Cost> Grid<'m, D, S, C> {
             kinds: PhantomData,
         }
     }
+
+    // How many nodes the grid has.
+    pub fn len(&self) -> u32
+        ensures { result ≡ self.now.used }
+    {
+        self.used
+    }
 }

@@ -21,7 +21,7 @@ fn install_all<'t, D: Address, S: Address, C: Cost>(
 }
 
 // Compares the lookups of all pairs of addresses by their first 8 bits, each in the memory that the last one left.
-pub(crate) fn compare<D: Address, S: Address, C: Cost>(
+fn compare<D: Address, S: Address, C: Cost>(
     places: &mut [Record<D::Pattern, S::Pattern, C::Pattern>],
     nodes: &mut [Node],
     trail: &mut [u32],
@@ -50,4 +50,30 @@ pub(crate) fn compare<D: Address, S: Address, C: Cost>(
         tally.count(first, second);
     }
     tally
+}
+
+// Compares the lookups behind a long table and then a short one with those behind the short one alone.
+pub(crate) fn compare_tables<D: Address, S: Address, C: Cost>(
+    heap: Global,
+    places: &mut [Record<D::Pattern, S::Pattern, C::Pattern>],
+    nodes: &mut [Node],
+    trail: &mut [u32],
+    other_places: &mut [Record<D::Pattern, S::Pattern, C::Pattern>],
+    other_nodes: &mut [Node],
+    other_trail: &mut [u32],
+    long: &[u8],
+    short: &[u8],
+) -> anyhow::Result<Tally> {
+    let calls = install_all::<D, S, C>(heap, &[long, short])?;
+    let other_calls = install_all::<D, S, C>(heap, &[short])?;
+    Ok(compare(
+        places,
+        nodes,
+        trail,
+        &calls,
+        other_places,
+        other_nodes,
+        other_trail,
+        &other_calls,
+    ))
 }

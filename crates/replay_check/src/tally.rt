@@ -1,6 +1,5 @@
 // How many lookups were compared and how many of them differed, and the sums of what they answered.
 use gateway::history::Outcome;
-use grid::trail::TrailFaultPartialEq;
 use std::fmt;
 
 #[derive(Clone, Copy)]

@@ -75,7 +75,7 @@ module _ (D S C : Kind) where
         )
 
   -- an accepted table was accepted by head and records
-  behind_parts : (v : Result ℕ TableFault) (w : Result ℕ LoadFault) (n : ℕ) → behind_head v w ≡ Ok n → ((k : ℕ) × (Ok k ≡ v)) × (w ≡ Ok n)
+  pub behind_parts : (v : Result ℕ TableFault) (w : Result ℕ LoadFault) (n : ℕ) → behind_head v w ≡ Ok n → ((k : ℕ) × (Ok k ≡ v)) × (w ≡ Ok n)
   behind_parts (Ok k) w n h = ((k, refl), h)
   behind_parts (Err e) w n h = let z : ◌≡◌ {A = ℕ} 0 1 = cc in absurd (omega arith)
 

@@ -36,7 +36,7 @@ reach_short p t = go (longest p t) refl
 
 -- ---- until, over the prefixes of a string
 
-until_map : {A B : Type 0} (p : B → Bool) (f : A → B) (xs : List A) → until p (map f xs) ≡ map f (until (λ x. p (f x)) xs)
+pub until_map : {A B : Type 0} (p : B → Bool) (f : A → B) (xs : List A) → until p (map f xs) ≡ map f (until (λ x. p (f x)) xs)
 until_map p f [] = refl
 until_map {B = B} p f (x ∷ xs) =
     elim (p (f x)) as (λ t. cond t (f x ∷ until p (map f xs)) [] ≡ map f (cond t (x ∷ until (λ y. p (f y)) xs) []))

@@ -1,26 +1,24 @@
-use Rattle.std.proofs.Common.{◌≡◌, ℕ, ◌+◌, ◌<◌, List, [], ◌∷◌, length, drop, sym, refl, ap, ◌∙◌, subst, arith}
+use Rattle.std.proofs.Common.{◌≡◌, ℕ, ◌+◌, List, ◌∷◌, length, drop, sym, refl, ap, ◌∙◌, subst, arith}
 use Rattle.std.proofs.lemmas.List.{at_drop_more, at_drop_all, length-replicate}
-use Rattle.book.specs.declared.book.Book.{Book}
 use Rattle.book.specs.Books.{capacity_of}
 use Rattle.filters.specs.declared.filter.Record.{Record}
-use Rattle.grid.specs.declared.grid.Grid.{Grid}
 use Rattle.grid.specs.declared.node.Node.TheVariants.{Empty}
-use Rattle.grid.specs.Refusals.{trailVerdict}
+use Rattle.grid.specs.Refusals.{trail_verdict}
 use Rattle.gateway.specs.declared.history.Call.{Call}
 use Rattle.gateway.specs.Assurance.{answer_of, room_of, places_of}
 use Rattle.gateway.specs.History.{past}
-use Rattle.gateway.specs.Kinds.{kinds_of}
+use Rattle.gateway.specs.Kinds.{kinds_of, BookOf, GridOf}
 use Rattle.gateway.proofs.Reached.{Reached, reached_none, reached_more, reached_all, assured_after}
 use Rattle.gateway.proofs.history.replay.Goals as goal
 
 pub loop-call-init : goal.loop-call-init
 loop-call-init g c =
-    let K = kinds_of g.D.Address g.D.Written g.S.Address g.S.Written g.C.Cost g.C.Written in
+    let K = kinds_of g.D.Address g.D.Written g.D.Pattern.Plain g.S.Address g.S.Written g.S.Pattern.Plain g.C.Cost g.C.Written g.C.Pattern.Plain in
     (reached_none K c.new-gateway.result c.args.calls.now (c.new-gateway.ensures.history c.new-book.ensures.0 c.new-grid.ensures.grid), refl, λ few. refl)
 
 pub loop-call-preserved : goal.loop-call-preserved
 loop-call-preserved g c =
-    let K = kinds_of g.D.Address g.D.Written g.S.Address g.S.Written g.C.Cost g.C.Written in
+    let K = kinds_of g.D.Address g.D.Written g.D.Pattern.Plain g.S.Address g.S.Written g.S.Pattern.Plain g.C.Cost g.C.Written g.C.Pattern.Plain in
     let calls = c.args.calls.now in
     let i = c.loop-call.call-index in
     let item = c.call-item.result in
@@ -38,7 +36,7 @@ loop-call-preserved g c =
 
 pub returns : goal.returns
 returns g c =
-    let K = kinds_of g.D.Address g.D.Written g.S.Address g.S.Written g.C.Cost g.C.Written in
+    let K = kinds_of g.D.Address g.D.Written g.D.Pattern.Plain g.S.Address g.S.Written g.S.Pattern.Plain g.C.Cost g.C.Written g.C.Pattern.Plain in
     let calls = c.args.calls.now in
     let i = c.loop-call.call-index in
     let v = c.new-gateway.result in
@@ -47,10 +45,10 @@ returns g c =
     let d = g.D.Address.string c.args.destination.now in
     let s = g.S.Address.string c.args.source.now in
     let room : room_of K v ≡ cap =
-    ap (λ (b : Book g.row.D.Denot g.row.S.Denot g.row.C.Denot g.row.D-Pattern.Denot g.row.S-Pattern.Denot g.row.C-Pattern.Denot). capacity_of (length b.places.now)) c.new-gateway.ensures.book
+    ap (λ (b : BookOf K). capacity_of (length b.places.now)) c.new-gateway.ensures.book
     ∙ ap (λ (xs : List (Record g.row.D-Pattern.Denot g.row.S-Pattern.Denot g.row.C-Pattern.Denot)). capacity_of (length xs)) c.new-book.ensures.1 in
     let all : places_of K v ≡ places =
-    ap (λ (w : Grid g.row.D.Denot g.row.S.Denot g.row.C.Denot g.row.D-Pattern.Denot g.row.S-Pattern.Denot g.row.C-Pattern.Denot). length w.nodes.now) c.new-gateway.ensures.grid
+    ap (λ (w : GridOf K). length w.nodes.now) c.new-gateway.ensures.grid
     ∙ ap length c.new-grid.ensures.memory
     ∙ length-replicate places Empty in
     let h =
@@ -66,7 +64,7 @@ returns g c =
           (record { found = c.classify-found.result; trailed = c.trail-trailed.result; nodes = c.nodes.result })
           (c.classify-found.ensures.answer (past K cap places calls) h)
           (c.trail-trailed.ensures.answer (past K cap places calls) h
-          ∙ ap (λ (n : ℕ). trailVerdict n g.D.Address.width g.S.Address.width (answer_of K (past K cap places calls).built d s)) few)
+          ∙ ap (λ (n : ℕ). trail_verdict n g.D.Address.width g.S.Address.width (answer_of K (past K cap places calls).built d s)) few)
           c.nodes.ensures;
       same = λ short. c.trail-trailed.ensures.same (omega arith) ∙ c.loop-call.invariant.2 short;
     }

@@ -7,7 +7,7 @@ use Rattle.gateway.proofs.history.replay_two.Goals as goal
 
 pub returns : goal.returns
 returns g c =
-    let K = kinds_of g.D.Address g.D.Written g.S.Address g.S.Written g.C.Cost g.C.Written in
+    let K = kinds_of g.D.Address g.D.Written g.D.Pattern.Plain g.S.Address g.S.Written g.S.Pattern.Plain g.C.Cost g.C.Written g.C.Pattern.Plain in
     record {
       assurance =
           agree K (record { exchange = g.met.C.Cost.exchange; chain = g.met.C.Cost.chain })

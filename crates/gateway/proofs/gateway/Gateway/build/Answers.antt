@@ -1,4 +1,4 @@
-use Rattle.std.proofs.Common.{ℕ, ◌≤◌, length, sym, refl, subst, arith}
+use Rattle.std.proofs.Common.{length, refl}
 use Rattle.book.specs.Books.{capacity_of}
 use Rattle.gateway.specs.Calls.{Builds}
 use Rattle.gateway.specs.Kinds.{kinds_of}
@@ -8,7 +8,7 @@ use Rattle.gateway.proofs.gateway.Gateway.build.Goals as goal
 
 pub returns : goal.returns
 returns g c =
-    let K = kinds_of g.D.Address g.D.Written g.S.Address g.S.Written g.C.Cost g.C.Written in
+    let K = kinds_of g.D.Address g.D.Written g.D.Pattern.Plain g.S.Address g.S.Written g.S.Pattern.Plain g.C.Cost g.C.Written g.C.Pattern.Plain in
     let b = c.args.self.now.book.now in
     let w = c.args.self.now.grid.now in
     let a : Builds K c.build.result b w c.build.new.self =

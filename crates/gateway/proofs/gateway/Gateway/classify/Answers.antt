@@ -1,4 +1,4 @@
-use Rattle.std.proofs.Common.{◌≡◌, sym, ◌∙◌, subst}
+use Rattle.std.proofs.Common.{◌≡◌, sym, subst}
 use Rattle.gateway.specs.Assurance.{Right, Answer, After, answer_of}
 use Rattle.gateway.specs.History.{Left}
 use Rattle.gateway.specs.Kinds.{kinds_of}
@@ -7,7 +7,7 @@ use Rattle.gateway.proofs.gateway.Gateway.classify.Goals as goal
 
 pub returns : goal.returns
 returns g c =
-    let K = kinds_of g.D.Address g.D.Written g.S.Address g.S.Written g.C.Cost g.C.Written in
+    let K = kinds_of g.D.Address g.D.Written g.D.Pattern.Plain g.S.Address g.S.Written g.S.Pattern.Plain g.C.Cost g.C.Written g.C.Pattern.Plain in
     let d = g.D.Address.string c.args.destination.now in
     let s = g.S.Address.string c.args.source.now in
     let same : (l : Left g.row.C.Denot) → After K l c.args.self.now → c.classify.result ≡ answer_of K l.built d s =

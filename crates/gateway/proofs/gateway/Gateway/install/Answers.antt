@@ -1,4 +1,4 @@
-use Rattle.std.proofs.Common.{◌≡◌, length, Ok, Err, Result, sym, refl, ap, ◌∙◌, subst}
+use Rattle.std.proofs.Common.{Ok, Err, Result, sym, ap, ◌∙◌, subst}
 use Rattle.std.proofs.lemmas.Result.{err_from_is_err_and}
 use Rattle.book.specs.Books.{capacity_of}
 use Rattle.gateway.specs.declared.fault.InstallFault.{InstallFault}
@@ -12,7 +12,7 @@ use Rattle.gateway.proofs.gateway.Gateway.install.Goals as goal
 
 pub returns-in_err-nodes : goal.returns-in_err-nodes
 returns-in_err-nodes g c =
-    let K = kinds_of g.D.Address g.D.Written g.S.Address g.S.Written g.C.Cost g.C.Written in
+    let K = kinds_of g.D.Address g.D.Written g.D.Pattern.Plain g.S.Address g.S.Written g.S.Pattern.Plain g.C.Cost g.C.Written g.C.Pattern.Plain in
     let bytes = c.args.table.now in
     let b = c.args.self.now.book.now in
     let b' = c.load.new.self in
@@ -39,7 +39,7 @@ returns-in_err-nodes g c =
 
 pub returns : goal.returns
 returns g c =
-    let K = kinds_of g.D.Address g.D.Written g.S.Address g.S.Written g.C.Cost g.C.Written in
+    let K = kinds_of g.D.Address g.D.Written g.D.Pattern.Plain g.S.Address g.S.Written g.S.Pattern.Plain g.C.Cost g.C.Written g.C.Pattern.Plain in
     let bytes = c.args.table.now in
     let b = c.args.self.now.book.now in
     let b' = c.load.new.self in

@@ -7,7 +7,7 @@ use Rattle.gateway.proofs.gateway.Gateway.trail.Goals as goal
 
 pub returns : goal.returns
 returns g c =
-    let K = kinds_of g.D.Address g.D.Written g.S.Address g.S.Written g.C.Cost g.C.Written in
+    let K = kinds_of g.D.Address g.D.Written g.D.Pattern.Plain g.S.Address g.S.Written g.S.Pattern.Plain g.C.Cost g.C.Written g.C.Pattern.Plain in
     let d = g.D.Address.string c.args.destination.now in
     let s = g.S.Address.string c.args.source.now in
     let wd = g.D.Address.width in

@@ -7,7 +7,7 @@ use Rattle.gateway.proofs.gateway.Gateway.withdraw.Goals as goal
 
 pub returns : goal.returns
 returns g c =
-    let K = kinds_of g.D.Address g.D.Written g.S.Address g.S.Written g.C.Cost g.C.Written in
+    let K = kinds_of g.D.Address g.D.Written g.D.Pattern.Plain g.S.Address g.S.Written g.S.Pattern.Plain g.C.Cost g.C.Written g.C.Pattern.Plain in
     let b = c.args.self.now.book.now in
     let w = c.args.self.now.grid.now in
     let a : Withdraws K c.args.label c.withdraw.result b c.withdraw.new.self =

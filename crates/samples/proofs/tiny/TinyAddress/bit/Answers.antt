@@ -1,4 +1,4 @@
-use Rattle.std.proofs.Common.{sym, ◌∙◌}
+use Rattle.std.proofs.Common.{sym}
 use Rattle.kinds.specs.Bits.{bits_at, bits_past}
 use Rattle.samples.proofs.tiny.TinyAddress.bit.Goals as goal
 
