@@ -14,12 +14,13 @@ import sys
 
 MADE = ("Answers.antt", "Invariants.antt")
 DECLARED = re.compile(r"\s*((?:pub|abbrev|unfoldable|record|data)\s+)*([^\s(){}:]+)\s*:(?!:)")
-# lemmas that would have the name of a definition or of another lemma; and a name that port.py wrote over
+# lemmas that would have the name of a definition or of another lemma; a name that port.py wrote over; and names that imports give
 APART = {
     "tables": {"head-fields": "head_fields_lem", "entry-verdict": "entry_verdict_lem"},
     "packets": {"all-ones": "all_ones_lem", "all_ones": "all_ones_lem"},
     "tries": {"same-key": "same_key_lem", "same_key": "same_key_lem"},
-    "grid": {"node-of": "node_of_lem", "node-at": "node_at_lem", "node_at": "node_at_lem", "same-key": "same_key_lem", "same_key": "same_key_lem", "field_own": "own_at"},
+    "grid": {"node-of": "node_of_lem", "node-at": "node_at_lem", "node_at": "node_at_lem", "same-key": "same_key_lem", "same_key": "same_key_lem", "field_own": "own_at", "nodesOf": "nodes_of"},
+    "book": {"entryLabels": "entry_labels"},
 }
 # who uses the lemma of another crate by such a name
 FROM = {"grid": ["tries"], "gateway": ["grid", "tries"], "packet_tests": ["packets"]}

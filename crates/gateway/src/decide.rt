@@ -1,6 +1,6 @@
 // Decisions: a packet is read, and its destination is classified with its source address or with the socket it came in by.
 ghost use Rattle.std.specs.Prelude.{◌≡◌};
-ghost use Rattle.kinds.specs.contracts.socket.SocketAddress.TheImpl.{ghosts as socketAddress};
+ghost use Rattle.kinds.specs.contracts.socket.SocketAddress.TheImpl.{ghosts as socket_address};
 ghost use Rattle.packets.specs.Datagram.{datagram};
 ghost use Rattle.gateway.specs.Assurance.{Right, After, answer_of};
 ghost use Rattle.gateway.specs.Decisions.{by_address, by_socket, decided, Decides, goal, origin};
@@ -32,8 +32,8 @@ impl<'b, 'g, 'f, 'n, C: Cost> Gateway<'b, 'g, 'f, 'n, Ipv4, Socket, C> {
         socket: &Socket,
         packet: &[u8],
     ) -> Result<(Option<(u16, Directive)>, u32), PacketFault>
-        ensures answer { (l : Left C) → After (by_socket C.Cost.own C.Written C.Pattern.Plain) l self.now → result ≡ decided (λ p. answer_of (by_socket C.Cost.own C.Written C.Pattern.Plain) l.built (goal p) (socketAddress.string socket.now)) (datagram packet.now) }
-        ensures right { (l : Left C) → After (by_socket C.Cost.own C.Written C.Pattern.Plain) l self.now → Decides (λ p a. Right C.Cost.order 32 16 l.built (goal p) (socketAddress.string socket.now) a) (datagram packet.now) result }
+        ensures answer { (l : Left C) → After (by_socket C.Cost.own C.Written C.Pattern.Plain) l self.now → result ≡ decided (λ p. answer_of (by_socket C.Cost.own C.Written C.Pattern.Plain) l.built (goal p) (socket_address.string socket.now)) (datagram packet.now) }
+        ensures right { (l : Left C) → After (by_socket C.Cost.own C.Written C.Pattern.Plain) l self.now → Decides (λ p a. Right C.Cost.order 32 16 l.built (goal p) (socket_address.string socket.now) a) (datagram packet.now) result }
     {
         let read = packets::read(packet)?;
         Ok(self.classify(&read.destination(), socket))

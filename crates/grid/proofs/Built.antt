@@ -6,7 +6,7 @@ use Rattle.filters.specs.declared.filter.Record.{Record}
 use Rattle.filters.specs.Rules.{Rule}
 use Rattle.filters.specs.Meaning.{held, held_at, rules}
 use Rattle.filters.specs.Orders.{In, Apart, Order}
-use Rattle.tries.specs.Shape.{nodes as nodesOf}
+use Rattle.tries.specs.Shape.{nodes as nodes_of}
 use Rattle.grid.specs.declared.node.Node.{Node}
 use Rattle.grid.specs.declared.node.Node.TheVariants.{Empty}
 use Rattle.grid.specs.Nodes.{sound}
@@ -61,7 +61,7 @@ module _ {C : Type 0} (lt : Rule C → Rule C → Bool) (ord : Order lt) (F : Li
       safe_front used N front safe front_long
       (subst (λ (M : List Node). sound used M ≡ true) (sym is) (sound_below used n F (take used N) (sound_take used used N safe.linked)))
 
-  pub built_count : used ≡ nodesOf F
+  pub built_count : used ≡ nodes_of F
   built_count = sym fill.state.long ∙ keys_count F fill.keys fill.state.distinct fill.whole
 
   rest_is : drop used N ≡ replicate (length N - used) Empty

@@ -4,7 +4,7 @@ ghost use Rattle.book.specs.Books.{after};
 ghost use Rattle.filters.specs.Rules.{better};
 ghost use Rattle.filters.specs.Meaning.{rules};
 ghost use Rattle.filters.specs.Orders.{Apart};
-ghost use Rattle.tries.specs.Shape.{need, nodes as nodesOf};
+ghost use Rattle.tries.specs.Shape.{need, nodes as nodes_of};
 ghost use Rattle.grid.specs.Derived.{Derived};
 ghost use Rattle.grid.specs.Build.{Safe};
 ghost use Rattle.grid.specs.declared.build.BuildFault.TheVariants.{Places};
@@ -60,7 +60,7 @@ fn fill<D: Address, S: Address, C: Cost>(
     requires room { need (length records.now) D.Address.width S.Address.width ≤ length nodes.old }
     ensures safe { Safe used.new nodes.new }
     ensures answer { result ≡ used.new }
-    ensures count { used.new ≡ nodesOf (rules D.Address.spells S.Address.spells C.Written.reads records.now) }
+    ensures count { used.new ≡ nodes_of (rules D.Address.spells S.Address.spells C.Written.reads records.now) }
     ensures grid { Apart (rules D.Address.spells S.Address.spells C.Written.reads records.now) → Derived (better C.Cost.order) (rules D.Address.spells S.Address.spells C.Written.reads records.now) nodes.new used.new }
 {
     empty_first(nodes, *used as usize);
@@ -79,8 +79,8 @@ impl<'m, D: Address, S: Address, C: Cost> Grid<'m, D, S, C> {
         records: &[Record<D::Pattern, S::Pattern, C::Pattern>],
     ) -> Result<u32, BuildFault>
         requires { length records.now ≤ 4095 }
-        ensures answer { result ≡ (if too_few (length self.old.nodes.now) (length records.now) D.Address.width S.Address.width then Err Places else Ok (nodesOf (rules D.Address.spells S.Address.spells C.Written.reads records.now))) }
-        ensures count { self.new.used ≡ (if too_few (length self.old.nodes.now) (length records.now) D.Address.width S.Address.width then self.old.used else nodesOf (rules D.Address.spells S.Address.spells C.Written.reads records.now)) }
+        ensures answer { result ≡ (if too_few (length self.old.nodes.now) (length records.now) D.Address.width S.Address.width then Err Places else Ok (nodes_of (rules D.Address.spells S.Address.spells C.Written.reads records.now))) }
+        ensures count { self.new.used ≡ (if too_few (length self.old.nodes.now) (length records.now) D.Address.width S.Address.width then self.old.used else nodes_of (rules D.Address.spells S.Address.spells C.Written.reads records.now)) }
         ensures places { length self.new.nodes.now ≡ length self.old.nodes.now }
         ensures same { too_few (length self.old.nodes.now) (length records.now) D.Address.width S.Address.width ≡ true → self.new.nodes.now ≡ self.old.nodes.now }
         ensures grid { too_few (length self.old.nodes.now) (length records.now) D.Address.width S.Address.width ≡ false → Apart (rules D.Address.spells S.Address.spells C.Written.reads records.now) → Derived (better C.Cost.order) (rules D.Address.spells S.Address.spells C.Written.reads records.now) self.new.nodes.now self.new.used }
@@ -98,8 +98,8 @@ impl<'m, D: Address, S: Address, C: Cost> Grid<'m, D, S, C> {
     // Builds the grid of the book's filters, and answers how many nodes it uses; the book stays as found. Where the node places
     // are fewer than so many filters may need it is refused before the first write.
     pub fn build(&mut self, book: &Book<D, S, C>) -> Result<u32, BuildFault>
-        ensures answer { result ≡ (if too_few (length self.old.nodes.now) book.now.used D.Address.width S.Address.width then Err Places else Ok (nodesOf (rules D.Address.spells S.Address.spells C.Written.reads (take book.now.used book.now.places.now)))) }
-        ensures count { self.new.used ≡ after result (nodesOf (rules D.Address.spells S.Address.spells C.Written.reads (take book.now.used book.now.places.now))) self.old.used }
+        ensures answer { result ≡ (if too_few (length self.old.nodes.now) book.now.used D.Address.width S.Address.width then Err Places else Ok (nodes_of (rules D.Address.spells S.Address.spells C.Written.reads (take book.now.used book.now.places.now)))) }
+        ensures count { self.new.used ≡ after result (nodes_of (rules D.Address.spells S.Address.spells C.Written.reads (take book.now.used book.now.places.now))) self.old.used }
         ensures places { length self.new.nodes.now ≡ length self.old.nodes.now }
         ensures memory { MatchResult result (λ _. Derived (better C.Cost.order) (rules D.Address.spells S.Address.spells C.Written.reads (take book.now.used book.now.places.now)) self.new.nodes.now self.new.used) (λ _. self.new.nodes.now ≡ self.old.nodes.now) }
     {
