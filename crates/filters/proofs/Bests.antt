@@ -281,10 +281,10 @@ module _ {C : Type 0} (order : C → C → Ordering) (laws : Compares order) (F 
 
   -- and a best match is what linear search finds
   pub best_is_linear : (a : Option (Rule C)) → BestMatch order F d s a → a ≡ linear (better order) F d s
-  best_is_linear a best-a =
-      good_both (better order) (ranks order laws) F apart a (linear (better order) F d s) (inside a best-a)
+  best_is_linear a best_a =
+      good_both (better order) (ranks order laws) F apart a (linear (better order) F d s) (inside a best_a)
       (λ f e. (linear_from (better order) (ranks order laws) F d s f e).0)
-      (no_worse (linear (better order) F d s) refl a best-a) (covers a best-a)
+      (no_worse (linear (better order) F d s) refl a best_a) (covers a best_a)
     where
       inside : (o : Option (Rule C)) → BestMatch order F d s o → (f : Rule C) → o ≡ Some f → In f F
       inside None m f e = absurd (none_some f e)

@@ -167,7 +167,7 @@ module _ {D S C D' S' C' : Type 0} (K : Kinds D S C D' S' C') (l : Left C) (b : 
       ∙ sym a.count)
 
   -- ---- building, given that no address spells more bits than its kind has
-  module _ (dst-long : (x : D') → length (K.dst.spells x) ≤ K.dst.width) (src-long : (x : S') → length (K.src.spells x) ≤ K.src.width) where
+  module _ (dst_long : (x : D') → length (K.dst.spells x) ≤ K.dst.width) (src_long : (x : S') → length (K.src.spells x) ≤ K.src.width) where
     built_by : (g' : GridOf K) (r : Result ℕ BuildFault) (t : Bool) → r ≡ cond t (Err Places) (Ok (nodes (filters_in K b)))
         → MatchResult r (λ _. Derived (ahead K) (filters_in K b) g'.nodes.now g'.used) (λ _. g'.nodes.now ≡ g.nodes.now)
         → g'.used ≡ after r (nodes (filters_in K b)) g.used
@@ -193,7 +193,7 @@ module _ {D S C D' S' C' : Type 0} (K : Kinds D S C D' S' C') (l : Left C) (b : 
           apart = subst (λ (F : List (Rule C)). Apart F) h.held (rules_apart K.dst.spells K.src.spells K.cost_written.reads (take b.used b.places.now) b.lawful);
           short =
               subst (λ (F : List (Rule C)). Each (λ f. (length f.destination ≤ K.dst.width) × (length f.source ≤ K.src.width)) F) h.held
-              (rules_short K.dst.spells K.src.spells K.cost_written.reads K.dst.width K.src.width dst-long src-long (take b.used b.places.now));
+              (rules_short K.dst.spells K.src.spells K.cost_written.reads K.dst.width K.src.width dst_long src_long (take b.used b.places.now));
         }
 
     pub builds_leaves : (cap : ℕ) (g' : GridOf K) (r : Result ℕ BuildFault) → Builds K r b g g' → Stands K (rebuilt K cap (length g.nodes.now) l) b g'
@@ -218,10 +218,10 @@ module _ {D S C D' S' C' : Type 0} (K : Kinds D S C D' S' C') (l : Left C) (b b'
   pub installed_leaves : ((x : D') → length (K.dst.spells x) ≤ K.dst.width) → ((x : S') → length (K.src.spells x) ≤ K.src.width)
       → (n : ℕ) → Loads K bytes (Ok n) b b' → filters_in K b' ≡ filters_of K bytes → (g' : GridOf K) (r : Result ℕ BuildFault) → Builds K r b' g g'
       → Stands K (installed K (capacity_of (length b.places.now)) (length g.nodes.now) l bytes) b' g'
-  installed_leaves dst-long src-long n a m g' r build =
+  installed_leaves dst_long src_long n a m g' r build =
       let cap = capacity_of (length b.places.now) in
       let places = length g.nodes.now in
       let l' : Left C = record { book = filters_of K bytes; built = l.built } in
       let s = rebooked K l b g h b' (filters_of K bytes) m (loaded_whole K l b g h b' bytes (Ok n) a n refl ∙ sym a.count) in
       subst (λ (z : Result ℕ LoadFault). Stands K (after z (rebuilt K cap places l') l) b' g') a.answer
-      (builds_leaves K l' b' g s dst-long src-long cap g' r build)
+      (builds_leaves K l' b' g s dst_long src_long cap g' r build)

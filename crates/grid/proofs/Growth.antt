@@ -122,7 +122,7 @@ make_bud (source D s) Root f g o q h e n = absurd (both_ways false refl h)
 
 -- ---- a new key k·w behind the keys
 module _ (own : Str → Str → Option Kept) (keys : List Key) (N : List Node) (used : ℕ) (st : State own keys N used)
-    (k : Key) (w : Way) (g : goes k w ≡ true) (at' : ℕ) (at-k : place k keys ≡ Some at') (new : any (key_eq (reached k w)) keys ≡ false) where
+    (k : Key) (w : Way) (g : goes k w ≡ true) (at' : ℕ) (at_k : place k keys ≡ Some at') (new : any (key_eq (reached k w)) keys ≡ false) where
   fresh : Key
   fresh = reached k w
 
@@ -168,7 +168,7 @@ module _ (own : Str → Str → Option Kept) (keys : List Key) (N : List Node) (
 
   -- the parent's node, as it is read
   parent_is : node_at N at' ≡ raw own keys k
-  parent_is = node_at_lem (raw own keys) keys N (replicate (length N - used) Empty) st.nodes k at' at-k
+  parent_is = node_at_lem (raw own keys) keys N (replicate (length N - used) Empty) st.nodes k at' at_k
 
   tail_split : used < length N → replicate {A = Node} (length N - used) Empty ≡ Empty ∷ replicate (length N - (used + 1)) Empty
   tail_split h = let e : length N - used ≡ suc (length N - (used + 1)) = omega arith in ap (λ (n : ℕ). replicate {A = Node} n Empty) e
@@ -185,12 +185,12 @@ module _ (own : Str → Str → Option Kept) (keys : List Key) (N : List Node) (
   second_write : set (map (raw own keys) keys ++ bud_of (raw own keys k) w ∷ replicate (length N - (used + 1)) Empty) at' (leading (raw own keys k) w used)
       ≡ map (raw own (keys ++ reached k w ∷ [])) (keys ++ reached k w ∷ []) ++ replicate (length N - (used + 1)) Empty
   second_write =
-      let b = place_below k keys at' at-k in
+      let b = place_below k keys at' at_k in
       let l = length-map keys (raw own keys) in
       let tail = replicate {A = Node} (length N - (used + 1)) Empty in
       set-append_left (map (raw own keys) keys) (bud_of (raw own keys k) w ∷ tail) at' (leading (raw own keys k) w used) (omega arith)
       ∙ ap (λ (M : List Node). M ++ bud_of (raw own keys k) w ∷ tail)
-      (set_map keys (raw own keys) (raw own (keys ++ reached k w ∷ [])) k at' (leading (raw own keys k) w used) at-k st.distinct
+      (set_map keys (raw own keys) (raw own (keys ++ reached k w ∷ [])) k at' (leading (raw own keys k) w used) at_k st.distinct
       (raw_parent ∙ ap (leading (raw own keys k) w) st.long) (λ m i h. raw_other m h))
       ∙ ap (λ (n : Node). map (raw own (keys ++ reached k w ∷ [])) keys ++ n ∷ tail) (sym raw_new)
       ∙ sym (append_assoc (map (raw own (keys ++ reached k w ∷ [])) keys) (raw own (keys ++ reached k w ∷ []) (reached k w) ∷ []) tail)
@@ -213,7 +213,7 @@ module _ (own : Str → Str → Option Kept) (keys : List Key) (N : List Node) (
       ∙ or_left (any (key_eq l) keys) (key_eq l (reached k w))
       (elim (or_cases (any (key_eq (reached l v)) keys) (key_eq (reached l v) (reached k w)) (sym (any_push (key_eq (reached l v)) keys (reached k w)) ∙ h)) [
         | inl i ↦ st.closed l v q i
-        | inr i ↦ any_same l k keys (reached_one l k v w q g (key_same (reached l v) (reached k w) i)).0 ∙ place_any k keys at' at-k
+        | inr i ↦ any_same l k keys (reached_one l k v w q g (key_same (reached l v) (reached k w) i)).0 ∙ place_any k keys at' at_k
       ])
 
   still_bare : (D s : Str) → any (key_eq (source D s)) (keys ++ reached k w ∷ []) ≡ false → own D s ≡ None
@@ -233,7 +233,7 @@ module _ (own : Str → Str → Option Kept) (keys : List Key) (N : List Node) (
             record {
               long = length_push keys (reached k w) ∙ ap (λ (n : ℕ). n + 1) st.long;
               distinct = once_push (reached k w) keys st.distinct new;
-              rooted = root_stays keys at' at-k st.rooted;
+              rooted = root_stays keys at' at_k st.rooted;
               closed = still_closed;
               bare = still_bare;
               nodes =

@@ -17,7 +17,7 @@ pub record Sized (b : List ℕ) : Type 0 where
 
 -- the same by the tests' answers; w is the number of words that the reader took, and t its total length
 pub sized : (b : List ℕ) (w t : ℕ) → w ≡ header_words b → t ≡ total_length b → false ≡ ltb (length b) 20 → true ≡ eqb (version b) 4 → false ≡ ltb w 5 → false ≡ (ltb t (w * 4) || ltb (length b) t) → Sized b
-sized b w t words_are total-is one two three four =
+sized b w t words_are total_is one two three four =
     let bounds : (header_length b ≤ total_length b) × (total_length b ≤ length b) = grind (arith, nat_tests, four) in
     record {
       long = grind (arith, nat_tests, one);

@@ -67,11 +67,11 @@ module _ {C : Type 0} (lt : Rule C → Rule C → Bool) (F : List (Rule C)) (d s
             let on = path_only (has_src F) (src_front F) d s m.0 m.1 in
             let D = m.0.0 in
             let u = m.0.1 in
-            let at-d = (longest_some (λ P. has_src F P u) d D on.1).0 in
+            let at_d = (longest_some (λ P. has_src F P u) d D on.1).0 in
             let b = best_from lt (λ (g : Rule C). starts g.destination D && starts g.source u) F f (sym m.2) in
             let p = and_parts (starts f.destination D) (starts f.source u) b.1 in (
               b.0,
-              and_from (starts f.destination d) (starts f.source s) (starts_chain f.destination D d p.0 at-d)
+              and_from (starts f.destination d) (starts f.source s) (starts_chain f.destination D d p.0 at_d)
                   (starts_chain f.source u s p.1 on.0),
             )
       ]

@@ -12,16 +12,16 @@ use Rattle.grid.proofs.Safety.{safe_none}
 use Rattle.grid.proofs.fill.insert_all.Goals as goal
 
 -- where i places have been read and another is there, there is room for its filter
-room-more : (n i wd ws : ℕ) → i < n → (i * (wd + ws + 1) + (wd + ws + 1) ≡ (i + 1) * (wd + ws + 1)) × (1 + (i + 1) * (wd + ws + 1) ≤ needed n wd ws)
-room-more zero i wd ws h = absurd (omega arith)
-room-more (suc n) i wd ws h =
+room_more : (n i wd ws : ℕ) → i < n → (i * (wd + ws + 1) + (wd + ws + 1) ≡ (i + 1) * (wd + ws + 1)) × (1 + (i + 1) * (wd + ws + 1) ≤ needed n wd ws)
+room_more zero i wd ws h = absurd (omega arith)
+room_more (suc n) i wd ws h =
     let a : (i + 1) * (wd + ws + 1) ≡ i * (wd + ws + 1) + 1 * (wd + ws + 1) = add-mul i 1 (wd + ws + 1) in
     let b = mul-le (i + 1) (wd + ws + 1) (suc n) (wd + ws + 1) (omega arith) (omega arith) in
     (omega arith, omega arith)
 
-needed-small : (n wd ws : ℕ) → n ≤ 4095 → wd ≤ 128 → ws ≤ 128 → needed n wd ws ≤ 2000000
-needed-small zero wd ws h a b = omega arith
-needed-small (suc n) wd ws h a b = let m = mul-le (suc n) (wd + ws + 1) 4095 257 h (omega arith) in omega arith
+needed_small : (n wd ws : ℕ) → n ≤ 4095 → wd ≤ 128 → ws ≤ 128 → needed n wd ws ≤ 2000000
+needed_small zero wd ws h a b = omega arith
+needed_small (suc n) wd ws h a b = let m = mul-le (suc n) (wd + ws + 1) 4095 257 h (omega arith) in omega arith
 
 pub loop-place-init : goal.loop-place-init
 loop-place-init g c =
@@ -42,8 +42,8 @@ insert_record-requires g c =
     let b = g.met.S.Address.span in
     let d = g.met.D.Written.short in
     let e = g.met.S.Written.short in
-    let r = room-more n c.loop-place.place-index wd ws c.loop-place-test.true in
-    let small = needed-small n wd ws c.requires.few (omega arith) (omega arith) in
+    let r = room_more n c.loop-place.place-index wd ws c.loop-place-test.true in
+    let small = needed_small n wd ws c.requires.few (omega arith) (omega arith) in
     let room = c.requires.room in
     let used = c.loop-place.invariant.1 in
     let long = c.loop-place.auto.nodes in
@@ -61,7 +61,7 @@ loop-place-preserved g c =
     let h = c.loop-place-test.true in
     let is = c.place-item.is in
     let m = c.insert_record.ensures.most in
-    let r = room-more (length xs) i g.D.Address.width g.S.Address.width h in
+    let r = room_more (length xs) i g.D.Address.width g.S.Address.width h in
     let v = c.loop-place.invariant in (
       c.insert_record.ensures.safe,
       omega arith,

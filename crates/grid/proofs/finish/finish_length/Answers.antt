@@ -7,9 +7,9 @@ use Rattle.grid.specs.declared.node.Node.{Node}
 use Rattle.grid.specs.Finish.{finish_path, finish_length}
 use Rattle.grid.proofs.finish.finish_length.Goals as goal
 
-finish-append : {C : Type 0} (n : ℕ) (N : List Node) (F G : List (Rule C)) → finish_length n N (F ++ G) ≡ finish_length n (finish_length n N F) G
-finish-append n N [] G = refl
-finish-append n N (f ∷ F) G = finish-append n (cond (eqb (length f.destination) n) (finish_path N f.destination f.source) N) F G
+finish_append : {C : Type 0} (n : ℕ) (N : List Node) (F G : List (Rule C)) → finish_length n N (F ++ G) ≡ finish_length n (finish_length n N F) G
+finish_append n N [] G = refl
+finish_append n N (f ∷ F) G = finish_append n (cond (eqb (length f.destination) n) (finish_path N f.destination f.source) N) F G
 
 pub loop-place-preserved : goal.loop-place-preserved
 loop-place-preserved g c =
@@ -22,7 +22,7 @@ loop-place-preserved g c =
     let x = c.place-item.result in
     let N = c.loop-place.nodes in
     ap (λ (M : List Node). finish_length n M (rules D S R (drop (i + 1) xs))) c.finish_record.ensures
-    ∙ sym (finish-append n N (held D S R x) (rules D S R (drop (i + 1) xs)))
+    ∙ sym (finish_append n N (held D S R x) (rules D S R (drop (i + 1) xs)))
     ∙ ap (λ (y : Record g.row.D-Pattern.Denot g.row.S-Pattern.Denot g.row.C-Pattern.Denot). finish_length n N (rules D S R (y ∷ drop (i + 1) xs))) c.place-item.is
     ∙ sym (at_drop_more (λ (ys : List (Record g.row.D-Pattern.Denot g.row.S-Pattern.Denot g.row.C-Pattern.Denot)). finish_length n N (rules D S R ys)) xs i x c.loop-place-test.true)
     ∙ c.loop-place.invariant
