@@ -12,6 +12,8 @@ use Rattle.grid.specs.Steps.{named}
 use Rattle.grid.specs.declared.trail.TrailFault.{TrailFault}
 use Rattle.grid.specs.declared.trail.TrailFault.TheVariants.{Places}
 use Rattle.grid.specs.Refusals.{trail_verdict}
+use Rattle.grid.specs.Derived.{Key}
+use Rattle.grid.specs.Trails.{Noted, Trailed}
 use Rattle.gateway.specs.Assurance.{Answer, NamesTheBest, Right}
 
 -- what a pattern spells is as long as its kind is wide
@@ -50,3 +52,9 @@ pub refused_same : (r : Result Answer TrailFault) (n m : ℕ) (before behind : L
     → MatchResult r (λ _. n ≤ m) (λ e. (e ≡ Places) × (m < n) × (behind ≡ before)) → m < n → behind ≡ before
 refused_same (Ok a) n m before behind h k = absurd (omega arith)
 refused_same (Err e) n m before behind h k = h.2
+
+-- a trail with enough places is accepted, and holds the places of the visited nodes
+pub accepted_noted : {C : Type 0} (keys : List Key) (F : List (Rule C)) (d s : Str) (before behind : List ℕ) (places wd ws : ℕ) (a : Answer) → wd + ws + 2 ≤ places
+    → Trailed keys F d s before behind (trail_verdict places wd ws a) → Noted keys F d s before behind
+accepted_noted keys F d s before behind places wd ws a enough h =
+    subst (λ (t : Bool). Trailed keys F d s before behind (cond {A = Result Answer TrailFault} t (Err Places) (Ok a))) (le-ltb places (wd + ws + 2) enough) h

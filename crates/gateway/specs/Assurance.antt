@@ -1,5 +1,5 @@
 -- The assurance: what holds of every lookup after every history.
-use Rattle.std.specs.Prelude.{◌≡◌, ℕ, ◌+◌, ◌*◌, ◌≤◌, false, List, length, Some, None, Option}
+use Rattle.std.specs.Prelude.{◌≡◌, ℕ, ◌+◌, ◌*◌, ◌≤◌, true, false, List, map, length, take, Some, None, Option}
 use Rattle.std.specs.declared.cmp.Ordering.{Ordering}
 use Rattle.kinds.specs.Strings.{Str}
 use Rattle.filters.specs.declared.directive.Directive.{Directive}
@@ -8,12 +8,15 @@ use Rattle.filters.specs.Rules.{Rule, linear, matches}
 use Rattle.tries.specs.Shape.{nodes}
 use Rattle.tries.specs.Search.{visits, back_visits}
 use Rattle.book.specs.Books.{capacity_of}
-use Rattle.grid.specs.Derived.{Derived}
+use Rattle.grid.specs.Derived.{Key, key_eq, is_key, place, once, Derived}
+use Rattle.grid.specs.Trails.{visited, Trailed}
+use Rattle.tries.specs.Prefixes.{any}
 use Rattle.grid.specs.Refusals.{trail_verdict}
 use Rattle.grid.specs.Steps.{named}
 use Rattle.gateway.specs.Kinds.{Kinds, BookOf, GridOf, ahead, filters_in}
 use Rattle.gateway.specs.declared.gateway.Gateway.{Gateway}
 use Rattle.gateway.specs.declared.history.Call.{Call}
+use Rattle.gateway.specs.declared.history.Call.TheVariants.{Add, Withdraw, Clear, Load, Install, Build, Classify, Trail}
 use Rattle.gateway.specs.declared.history.Outcome.{Outcome}
 use Rattle.gateway.specs.History.{Left, step}
 
@@ -74,6 +77,21 @@ module _ {D S C D' S' C' : Type 0} (K : Kinds D S C D' S' C') where
     pub places : places_of w' ≡ places_of w
     pub leaves : (l : Left C) → After l w → After (step K (room_of w) (places_of w) l c) w'
 
+  -- what a call leaves of the trail memory: an accepted trail writes the places of the visited nodes under the numbering of the grid
+  -- that the gateway has, a refused one writes nothing, and no other call writes there
+  abbrev pub Writes : Call D S C → GatewayOf → List ℕ → List ℕ → Type 0
+  Writes (Add f) w t t' = t' ≡ t
+  Writes (Withdraw n) w t t' = t' ≡ t
+  Writes Clear w t t' = t' ≡ t
+  Writes (Load bytes) w t t' = t' ≡ t
+  Writes (Install bytes) w t t' = t' ≡ t
+  Writes Build w t t' = t' ≡ t
+  Writes (Classify d s) w t t' = t' ≡ t
+  Writes (Trail d s) w t t' =
+      (l : Left C) → (h : After l w)
+      → Trailed h.derived.keys l.built (K.dst.string d) (K.src.string s) t t'
+      (trail_verdict (length t) K.dst.width K.src.width (answer_of l.built (K.dst.string d) (K.src.string s)))
+
   -- ---- the assurance
 
   -- what holds of the lookup of d and s behind a history that leaves l, with so many trail places: it is right for the built
@@ -93,3 +111,13 @@ module _ {D S C D' S' C' : Type 0} (K : Kinds D S C D' S' C') where
     pub first : Assured l d s n o.0
     pub second : Assured m d s k o.1
     pub same : Alike l.built m.built → (o.0.found ≡ o.1.found) × (o.0.nodes ≡ o.1.nodes)
+
+-- ---- the trail memory behind a history
+
+-- the memory of an accepted trail of d and s, F being the built filters: there is a numbering of the nodes, each once and no others,
+-- and the first places hold the numbers of the visited nodes, in order
+pub record Marked {C : Type 0} (F : List (Rule C)) (d s : Str) (t : List ℕ) : Type 0 where
+  pub keys : List Key
+  pub distinct : once keys ≡ true
+  pub whole : (k : Key) → any (key_eq k) keys ≡ is_key F k
+  pub places : map Some (take (visits F d s) t) ≡ map (λ k. place k keys) (visited F d s)

@@ -2,8 +2,8 @@
 ghost use Rattle.std.specs.Prelude.{◌≡◌, ◌+◌, ◌<◌, [], length, MatchResult};
 ghost use Rattle.grid.specs.Refusals.{trail_verdict};
 ghost use Rattle.grid.specs.Trails.{Trailed};
-ghost use Rattle.gateway.specs.declared.history.Call.TheVariants.{Add, Withdraw, Clear, Load, Install, Build};
-ghost use Rattle.gateway.specs.Assurance.{Right, answer_of, Stands, After, Follows};
+ghost use Rattle.gateway.specs.declared.history.Call.TheVariants.{Add, Withdraw, Clear, Load, Install, Build, Trail};
+ghost use Rattle.gateway.specs.Assurance.{Right, answer_of, Writes, Stands, After, Follows};
 ghost use Rattle.gateway.specs.Calls.{Adds, Withdraws, Clears, Loads, Builds, Installs};
 ghost use Rattle.gateway.specs.History.{Left, made};
 ghost use Rattle.gateway.specs.Kinds.{kinds_of, ahead};
@@ -121,7 +121,7 @@ impl<'b, 'g, 'f, 'n, D: Address, S: Address, C: Cost> Gateway<'b, 'g, 'f, 'n, D,
     ) -> Result<(Option<(u16, Directive)>, u32), TrailFault>
         ensures answer { (l : Left C) → After (kinds_of D.Address.own D.Written D.Pattern.Plain S.Address.own S.Written S.Pattern.Plain C.Cost.own C.Written C.Pattern.Plain) l self.now → result ≡ trail_verdict (length trail.old) D.Address.width S.Address.width (answer_of (kinds_of D.Address.own D.Written D.Pattern.Plain S.Address.own S.Written S.Pattern.Plain C.Cost.own C.Written C.Pattern.Plain) l.built (D.Address.string destination.now) (S.Address.string source.now)) }
         ensures right { (l : Left C) → After (kinds_of D.Address.own D.Written D.Pattern.Plain S.Address.own S.Written S.Pattern.Plain C.Cost.own C.Written C.Pattern.Plain) l self.now → MatchResult result (λ a. Right C.Cost.order D.Address.width S.Address.width l.built (D.Address.string destination.now) (S.Address.string source.now) a) (λ _. length trail.old < D.Address.width + S.Address.width + 2) }
-        ensures memory { (l : Left C) → (h : After (kinds_of D.Address.own D.Written D.Pattern.Plain S.Address.own S.Written S.Pattern.Plain C.Cost.own C.Written C.Pattern.Plain) l self.now) → Trailed h.derived.keys l.built (D.Address.string destination.now) (S.Address.string source.now) trail.old trail.new result }
+        ensures memory { Writes (kinds_of D.Address.own D.Written D.Pattern.Plain S.Address.own S.Written S.Pattern.Plain C.Cost.own C.Written C.Pattern.Plain) (Trail destination.now source.now) self.now trail.old trail.new }
         ensures same { length trail.old < D.Address.width + S.Address.width + 2 → trail.new ≡ trail.old }
     {
         self.grid.trail(destination, source, trail)

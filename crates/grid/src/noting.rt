@@ -1,6 +1,6 @@
 // The search once more, noted: it takes the same steps, and notes every visit in the trail that is handed in, at the place of its
 // number. A trail of fewer places takes the notes that it has places for.
-ghost use Rattle.std.specs.Prelude.{◌≡◌, ◌+◌, ◌^◌, ◌<◌, ◌≤◌, true, false, List, length, None, slice_index_or, slice_set};
+ghost use Rattle.std.specs.Prelude.{◌≡◌, ◌+◌, ◌<◌, ◌≤◌, true, false, List, length, None, slice_index_or, slice_set};
 ghost use Rattle.std.proofs.lemmas.List.Edits.{sets};
 ghost use Rattle.std.specs.Option.{option_map};
 ghost use Rattle.filters.specs.Rules.{Rule, better, linear};
@@ -8,12 +8,12 @@ ghost use Rattle.filters.specs.Orders.{Apart};
 ghost use Rattle.tries.specs.Search.{visits};
 ghost use Rattle.grid.specs.Nodes.{sound, within};
 ghost use Rattle.grid.specs.Derived.{Derived};
-ghost use Rattle.grid.specs.Steps.{along, jotted, entered, step_down, places_down, met, step_on, places_on, named, told};
+ghost use Rattle.grid.specs.Steps.{along, jotted, entered, step_down, places_down, met, step_on, places_on, named};
 ghost use Rattle.grid.specs.Trails.{Noted};
 
 use crate::grid::Grid;
 use crate::node::Node;
-use crate::search::{Descent, Walk};
+use crate::search::{Descent, Walk, tell};
 use filters::directive::Directive;
 use kinds::address::Address;
 use kinds::cost::Cost;
@@ -149,21 +149,6 @@ fn follow_noted<S: Address>(
     walk
 }
 
-impl Walk {
-    // What is told of a walk, when so many nodes have been visited before: the label and directive of the filter that was kept, and
-    // how many nodes were visited in all.
-    fn tell_noted(self, before: u32) -> (Option<(u16, Directive)>, u32)
-        requires { before + self.visits < 2 ^ 32 }
-        ensures { result ≡ (told self.best, before + self.visits) }
-    {
-        let best = match self.best {
-            Some(kept) => Some((kept.label, kept.directive)),
-            None => None,
-        };
-        (best, before + self.visits)
-    }
-}
-
 impl<'m, D: Address, S: Address, C: Cost> Grid<'m, D, S, C> {
     // The search of two addresses, noted in the trail.
     pub(crate) fn search_noted(
@@ -185,7 +170,7 @@ impl<'m, D: Address, S: Address, C: Cost> Grid<'m, D, S, C> {
             None => (None, descent.visits),
             Some(root) => {
                 let walk = follow_noted(nodes, root, source, descent.visits, trail);
-                walk.tell_noted(descent.visits)
+                (tell(walk.best), descent.visits + walk.visits)
             }
         }
     }

@@ -134,7 +134,7 @@ fn follow<S: Address>(nodes: &[Node], root: u32, source: &S) -> Walk
 }
 
 // What is told of the filter that was kept: its label and its directive.
-fn tell(best: Option<Kept>) -> Option<(u16, Directive)>
+pub(crate) fn tell(best: Option<Kept>) -> Option<(u16, Directive)>
     ensures { result ≡ told best }
 {
     match best {

@@ -8,6 +8,7 @@ use Rattle.gateway.specs.declared.history.Call.{Call}
 use Rattle.gateway.specs.Assurance.{answer_of, room_of, places_of}
 use Rattle.gateway.specs.History.{past}
 use Rattle.gateway.specs.Kinds.{kinds_of, BookOf, GridOf}
+use Rattle.gateway.proofs.Assured.{accepted_noted}
 use Rattle.gateway.proofs.Reached.{Reached, reached_none, reached_more, reached_all, assured_after}
 use Rattle.gateway.proofs.history.replay.Goals as goal
 
@@ -67,4 +68,9 @@ returns g c =
           ∙ ap (λ (n : ℕ). trail_verdict n g.D.Address.width g.S.Address.width (answer_of K (past K cap places calls).built d s)) few)
           c.nodes.ensures;
       same = λ short. c.trail-trailed.ensures.same (omega arith) ∙ c.loop-call.invariant.2 short;
+      marked = λ enough.
+          let n =
+          accepted_noted h.derived.keys (past K cap places calls).built d s c.loop-call.trail c.trail-trailed.new.trail (length c.loop-call.trail) g.D.Address.width g.S.Address.width
+          (answer_of K (past K cap places calls).built d s) (omega (arith, few)) (c.trail-trailed.ensures.memory (past K cap places calls) h) in
+          record { keys = h.derived.keys; distinct = h.derived.distinct; whole = h.derived.whole; places = n.places };
     }

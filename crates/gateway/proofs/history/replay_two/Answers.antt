@@ -18,4 +18,6 @@ returns g c =
           c.replay-first.ensures.assured c.replay-second.ensures.assured;
       same = c.replay-first.ensures.same;
       other = c.replay-second.ensures.same;
+      marked = c.replay-first.ensures.marked;
+      other_marked = c.replay-second.ensures.marked;
     }

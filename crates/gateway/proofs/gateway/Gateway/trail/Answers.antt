@@ -1,5 +1,6 @@
 use Rattle.std.proofs.Common.{◌+◌, ◌<◌, length, Result, sym, subst, MatchResult}
 use Rattle.grid.specs.declared.trail.TrailFault.{TrailFault}
+use Rattle.grid.specs.Trails.{Trailed}
 use Rattle.gateway.specs.Assurance.{Answer, Right, answer_of}
 use Rattle.gateway.specs.Kinds.{kinds_of}
 use Rattle.gateway.proofs.Assured.{answer_right, verdict_cases, refused_same}
@@ -21,6 +22,8 @@ returns g c =
           (verdict_cases (λ a. Right g.C.Cost.order wd ws l.built d s a) n wd ws (answer_of K l.built d s)
           (answer_right g.C.Cost.order (record { exchange = g.met.C.Cost.exchange; chain = g.met.C.Cost.chain }) l.built h.apart d s wd ws
           (g.met.D.Address.long c.args.destination.now) (g.met.S.Address.long c.args.source.now)));
-      memory = λ l h. c.trail.ensures.memory l.built h.derived;
+      memory = λ l h.
+          subst (λ (r : Result Answer TrailFault). Trailed h.derived.keys l.built d s c.args.trail.now c.trail.new.trail r)
+          (c.trail.ensures.answer l.built h.apart h.derived) (c.trail.ensures.memory l.built h.derived);
       same = refused_same c.trail.result (wd + ws + 2) n c.args.trail.now c.trail.new.trail c.trail.ensures.refused;
     }

@@ -75,8 +75,8 @@ returns-in-Some g c =
     let last = c.follow_noted-walk.ensures.end in
     let some : 0 < u = omega arith in
     record {
-      best = λ F apart h. (λ i. (c.tell_noted.ensures i).0) ∙ walked_best lt F N u h some d s e end c.in-Some.root c.in-Some.is w last ord apart;
-      visits = λ F h. (λ i. (c.tell_noted.ensures i).1) ∙ walked_visits lt F N u h some d s e end c.in-Some.root c.in-Some.is w last;
+      best = λ F apart h. c.tell.ensures ∙ walked_best lt F N u h some d s e end c.in-Some.root c.in-Some.is w last ord apart;
+      visits = λ F h. walked_visits lt F N u h some d s e end c.in-Some.root c.in-Some.is w last;
       notes = λ F h room.
           let few = c.descend_noted-descent.ensures.few in
           let more = c.follow_noted-walk.ensures.few in
