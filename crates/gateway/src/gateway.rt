@@ -1,9 +1,8 @@
 // A book and a grid in two lent memories, and the calls on them.
 ghost use Rattle.std.specs.Prelude.{◌≡◌, ◌+◌, ◌<◌, [], length, MatchResult};
 ghost use Rattle.grid.specs.Refusals.{trail_verdict};
-ghost use Rattle.grid.specs.Trails.{Trailed};
 ghost use Rattle.gateway.specs.declared.history.Call.TheVariants.{Add, Withdraw, Clear, Load, Install, Build, Trail};
-ghost use Rattle.gateway.specs.Assurance.{Right, answer_of, Writes, Stands, After, Follows};
+ghost use Rattle.gateway.specs.Assurance.{Right, answer_of, Writes, After, Follows};
 ghost use Rattle.gateway.specs.Calls.{Adds, Withdraws, Clears, Loads, Builds, Installs};
 ghost use Rattle.gateway.specs.History.{Left, made};
 ghost use Rattle.gateway.specs.Kinds.{kinds_of, ahead};
