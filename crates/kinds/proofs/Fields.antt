@@ -1,11 +1,16 @@
 -- Sockets and tariffs are determined by their fields, and packed and taken apart without loss.
-use Rattle.std.proofs.Common.{◌≡◌, ℕ, ◌+◌, ◌*◌, ◌/◌, ◌%◌, ◌^◌, ◌<◌, ◌∙◌, arith}
+use Rattle.std.proofs.Common.{◌≡◌, ℕ, ◌+◌, ◌*◌, ◌/◌, ◌%◌, ◌^◌, ◌<◌, ◌≤◌, Ok, Err, ap, ◌∙◌, arith}
+use Rattle.std.specs.Prelude.{Result, MatchResult}
+use Rattle.std.specs.Option.{ok_or}
+use Rattle.kinds.specs.declared.written.PatternFault.{PatternFault}
+use Rattle.kinds.specs.declared.written.PatternFault.TheVariants.{Unlawful}
+use Rattle.kinds.specs.Patterns.{below}
 use lib.Bits.{bit_or}
 use Rattle.std.proofs.lemmas.Nat.{or_shifted}
 use Rattle.kinds.specs.declared.socket.Socket.{Socket}
 use Rattle.kinds.specs.declared.tariff.Tariff.{Tariff}
 use Rattle.kinds.specs.Parts.{hall_fits, row_fits, socket_fits, class_fits, price_fits, packed_hall, packed_row, packed_socket, packed_below, priced_class, priced_price, priced_below}
-use Rattle.kinds.specs.Packed.{same_two, same_three}
+use Rattle.kinds.specs.Packed.{same_two, same_three, reads_packed, reads_past}
 
 abbrev pub socket : (h r s : ℕ) → h < 16 → r < 64 → s < 64 → Socket
 socket h r s i j k = record { hall = h; row = r; socket = s; halls = i; rows = j; sockets = k }
@@ -56,3 +61,8 @@ pub priced_or : (x : Tariff) → bit_or (x.class * 268435456 % 4294967296) x.pri
 priced_or x =
     let a : x.class * 268435456 % 4294967296 ≡ x.class * 268435456 = omega arith in
     rw (a, or_shifted x.class 28 x.price x.prices)
+
+-- an answer that is the tariff of a number, or the refusal of a number over the limit, is what reading answers
+pub tariff_read : (n : ℕ) (r : Result Tariff PatternFault) → MatchResult r (λ x. priced x ≡ n) (λ e. (e ≡ Unlawful) × (10 * 2 ^ 28 ≤ n)) → r ≡ ok_or (below (10 * 2 ^ 28) tariff_of n) Unlawful
+tariff_read n (Ok x) h = reads_packed (10 * 2 ^ 28) tariff_of priced priced_fits tariff_again n x h
+tariff_read n (Err e) h = ap {B = Result Tariff PatternFault} Err h.0 ∙ reads_past (10 * 2 ^ 28) tariff_of n h.1

@@ -4,14 +4,18 @@ use Rattle.std.proofs.Common.{ltb→lt}
 use Rattle.kinds.specs.declared.written.PatternFault.{PatternFault}
 use Rattle.kinds.specs.declared.written.PatternFault.TheVariants.{Unlawful}
 
--- what a number reads as, by the test whether it is below the limit
-abbrev pub below_by : {X : Type 0} (limit : ℕ) → ((n : ℕ) → n < limit → X) → (n : ℕ) (t : Bool) → (T t → n < limit) → Option X
-below_by limit make n true h = Some (make n (h tt))
-below_by limit make n false h = None
+-- what a pattern reads as, by the test whether its number is below the limit
+abbrev pub fitting_by : {P X : Type 0} (number : P → ℕ) (limit : ℕ) → ((p : P) → number p < limit → X) → (p : P) (t : Bool) → (T t → number p < limit) → Option X
+fitting_by number limit make p true h = Some (make p (h tt))
+fitting_by number limit make p false h = None
 
--- the patterns below a limit are lawful, and `make` says what each reads as
+-- the patterns whose numbers are below a limit are lawful, and `make` says what each reads as
+abbrev pub fitting : {P X : Type 0} (number : P → ℕ) (limit : ℕ) → ((p : P) → number p < limit → X) → P → Option X
+fitting number limit make p = fitting_by number limit make p (nat_lt (number p) limit) (ltb→lt (number p) limit)
+
+-- the same where patterns are numbers
 abbrev pub below : {X : Type 0} (limit : ℕ) → ((n : ℕ) → n < limit → X) → ℕ → Option X
-below limit make n = below_by limit make n (nat_lt n limit) (ltb→lt n limit)
+below limit make n = fitting (λ m. m) limit make n
 
 -- the number of the refusal of a pattern
 abbrev pub pattern_number : PatternFault → ℕ

@@ -9,34 +9,33 @@ pub trait Address: Written {
     const WIDTH: u32;
 
     // the number of bits, the string that a pattern spells, and the string that a value means
-    ghost width: { ℕ };
+    ghost WIDTH: { ℕ };
 
     ghost spells: { Self.Pattern → Str };
 
     ghost string: { Self → Str };
 
-    // The width: WIDTH, as code that is generic over the kind asks for it.
-    fn width_in_bits() -> u32
-        ensures { result ≡ width };
-
     // The address of a pattern, which means what the pattern spells.
     fn of(from: Self::Pattern) -> Self
         ensures string { string result ≡ spells from }
-        ensures lawful { Self.Written.number from < 2 ^ width → Self.Written.reads from ≡ Some result };
+        ensures lawful { Self.Written.number from < 2 ^ WIDTH → Self.Written.reads from ≡ Some result };
 
     // The bit at place i, counted from 0; beyond the width it is 0.
-    fn bit(&self, i: u32) -> bool
-        ensures { result ≡ slice_index_or (string self.now) i false };
+    final fn bit(&self, i: u32) -> bool
+        ensures { result ≡ slice_index_or (string self.now) i false }
+    {
+        i < Self::WIDTH && self.write().has_bit(Self::WIDTH - 1 - i)
+    }
 
-    ghost span: { width ≡ Self.Written.size };
+    ghost span: { WIDTH ≡ Self.Written.SIZE };
 
     // a pattern spells its bits, the most significant first, and a value means what its pattern spells
-    ghost first: { (p : Self.Pattern) → spells p ≡ bits width (Self.Written.number p) };
+    ghost first: { (p : Self.Pattern) → spells p ≡ bits WIDTH (Self.Written.number p) };
 
     ghost spelt: { (x : Self) → string x ≡ spells (Self.Written.pattern x) };
 
-    ghost long: { (x : Self) → length (string x) ≡ width };
+    ghost long: { (x : Self) → length (string x) ≡ WIDTH };
 
     // every pattern is lawful
-    ghost every: { (p : Self.Pattern) → Self.Written.number p < 2 ^ width → is_some (Self.Written.reads p) ≡ true };
+    ghost every: { (p : Self.Pattern) → Self.Written.number p < 2 ^ WIDTH → is_some (Self.Written.reads p) ≡ true };
 }

@@ -1,128 +1,20 @@
 // IPv6 addresses: kind 2, 128 bits.
-ghost use Rattle.std.specs.Prelude.{◌≡◌, ℕ, ◌^◌, ◌<◌, is_some};
-ghost use Rattle.std.proofs.Common.{ap, rules, arith};
-ghost use Rattle.kinds.specs.Strings.{bits, weighs};
-ghost use Rattle.kinds.specs.Patterns.{below};
-ghost use Rattle.kinds.specs.Packed.{below_some};
-ghost use Rattle.kinds.specs.Bits.{length_bits};
+ghost use Rattle.std.proofs.Common.{ltb→lt};
 
-use crate::address::Address;
-use crate::written::{PatternFault, Written};
+use crate::number::{AddressNumbers, Number, NumberKind};
 
-#[derive(Clone, Copy, PartialEq, Eq, Debug)]
-pub struct Ipv6 {
-    number: u128,
-    ghost fits: { number < 2 ^ 128 },
-}
+#[derive(Clone, Copy, PartialEq, Eq, PartialOrd, Ord, Debug)]
+pub struct V6;
 
-impl Ipv6 {
-    // The address of a 128-bit number, its most significant bit first.
-    pub fn new(number: u128) -> Ipv6
-        ensures { result.number ≡ number }
-    {
-        Ipv6 { number }
-    }
-
-    // The address as a number.
-    pub fn to_bits(&self) -> u128
-        ensures { result ≡ self.now.number }
-    {
-        self.number
-    }
-
-    // Whether the bit of this weight is set: 2 ^ weight is among the powers of two that add up to the number.
-    fn has_bit(&self, weight: u32) -> bool
-        requires { weight < 128 }
-        ensures { result ≡ weighs self.now.number weight }
-    {
-        (self.number >> weight) % 2 == 1
-    }
-}
-
-impl Written for Ipv6 {
-    type Pattern = u128;
-
+impl NumberKind for V6 {
     const CODE: u8 = 2;
 
-    ghost code = { 2 };
+    ghost CODE = { 2 };
 
-    ghost size = { 128 };
-
-    ghost number = { λ p. p };
-
-    ghost pattern = { λ x. x.number };
-
-    ghost reads = { below (2 ^ 128) (λ n h. record { number = n; fits = h }) };
-
-    ghost value = { below (2 ^ 128) (λ n h. record { number = n; fits = h }) };
-
-    ghost low = { first_of (Prim.search rules, Prim.grind (arith, Self.row.coded.inj)) };
-
-    ghost bytes = { first_of (Prim.search rules, Prim.grind (arith, Self.row.coded.inj)) };
-
-    ghost short = { first_of (Prim.search rules, Prim.grind (arith, Self.row.coded.inj)) };
-
-    ghost held = { first_of (Prim.search rules, Prim.grind (arith, Self.row.coded.inj)) };
-
-    ghost plain = { first_of (Prim.search rules, Prim.grind (arith, Self.row.coded.inj)) };
-
-    ghost fits = { first_of (Prim.search rules, Prim.grind (arith, Self.row.coded.inj)) };
-
-    ghost valued = { first_of (Prim.search rules, Prim.grind (arith, Self.row.coded.inj)) };
-
-    ghost again = { λ x. below_some (2 ^ 128) (λ n h. record { number = n; fits = h }) x.number x.fits };
-
-    ghost back = { first_of (Prim.search rules, Prim.grind (arith, Self.row.coded.inj)) };
-
-    fn kind() -> u8 {
-        Self::CODE
-    }
-
-    fn size_in_bits() -> u32 {
-        128
-    }
-
-    fn read(from: u128) -> Result<Self, PatternFault> {
-        Ok(Ipv6 { number: from })
-    }
-
-    fn write(&self) -> u128 {
-        self.to_bits()
-    }
+    ghost low = { ltb→lt 2 16 tt };
 }
 
-impl Address for Ipv6 {
-    const WIDTH: u32 = 128;
+impl AddressNumbers for V6 {}
 
-    ghost width = { 128 };
-
-    ghost spells = { bits 128 };
-
-    ghost string = { λ x. bits 128 x.number };
-
-    ghost span = { first_of (Prim.search rules, Prim.grind (arith, Self.row.coded.inj)) };
-
-    ghost first = { first_of (Prim.search rules, Prim.grind (arith, Self.row.coded.inj)) };
-
-    ghost spelt = { first_of (Prim.search rules, Prim.grind (arith, Self.row.coded.inj)) };
-
-    ghost long = { λ x. length_bits 128 x.number };
-
-    ghost every = { λ n h. ap is_some (below_some (2 ^ 128) (λ m k. record { number = m; fits = k }) n h) };
-
-    fn width_in_bits() -> u32 {
-        Self::WIDTH
-    }
-
-    fn of(from: u128) -> Self {
-        Ipv6 { number: from }
-    }
-
-    fn bit(&self, i: u32) -> bool {
-        if i < Self::WIDTH {
-            self.has_bit(127 - i)
-        } else {
-            false
-        }
-    }
-}
+// The most significant bit of the number is the first of the address.
+pub type Ipv6 = Number<V6, u128>;

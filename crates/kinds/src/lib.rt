@@ -2,9 +2,11 @@
 #![tactic(auto)]
 
 pub mod address;
+pub mod bits;
 pub mod cost;
 pub mod ipv4;
 pub mod ipv6;
+pub mod number;
 pub mod plain;
 pub mod prefix;
 pub mod rank;

@@ -49,23 +49,30 @@ impl Socket {
     {
         self.socket
     }
+}
 
-    // The socket that is packed into a number.
-    fn unpack(from: u16) -> Socket
-        ensures { result.hall * 4096 + result.row * 64 + result.socket ≡ from }
-    {
+// The socket that is packed into a number.
+impl From<u16> for Socket {
+    ghost from_gives = { λ n x. x.hall * 4096 + x.row * 64 + x.socket ≡ n };
+
+    fn from(number: u16) -> Socket {
         Socket {
-            hall: (from >> 12) as u8,
-            row: low_six(from >> 6) as u8,
-            socket: low_six(from) as u8,
+            hall: (number >> 12) as u8,
+            row: low_six(number >> 6) as u8,
+            socket: low_six(number) as u8,
         }
     }
+}
 
-    // The number into which the socket is packed.
-    fn pack(&self) -> u16
-        ensures { result ≡ self.now.hall * 4096 + self.now.row * 64 + self.now.socket }
-    {
-        join(join(self.hall as u16, self.row as u16), self.socket as u16)
+// The number into which a socket is packed.
+impl From<Socket> for u16 {
+    ghost from_gives = { λ x n. n ≡ x.hall * 4096 + x.row * 64 + x.socket };
+
+    fn from(socket: Socket) -> u16 {
+        join(
+            join(socket.hall as u16, socket.row as u16),
+            socket.socket as u16,
+        )
     }
 }
 
@@ -89,9 +96,11 @@ impl Written for Socket {
 
     const CODE: u8 = 3;
 
-    ghost code = { 3 };
+    const SIZE: u32 = 16;
 
-    ghost size = { 16 };
+    ghost CODE = { 3 };
+
+    ghost SIZE = { 16 };
 
     ghost number = { λ p. p };
 
@@ -101,74 +110,53 @@ impl Written for Socket {
 
     ghost value = { below (2 ^ 16) (λ n h. record { hall = n / 4096; row = n / 64 % 64; socket = n % 64; halls = hall_fits n h; rows = row_fits n; sockets = socket_fits n }) };
 
-    ghost low = { first_of (Prim.search rules, Prim.grind (arith, Self.row.coded.inj)) };
+    ghost low = { Prim.search rules };
 
-    ghost bytes = { first_of (Prim.search rules, Prim.grind (arith, Self.row.coded.inj)) };
+    ghost bytes = { Prim.search rules };
 
-    ghost short = { first_of (Prim.search rules, Prim.grind (arith, Self.row.coded.inj)) };
+    ghost short = { Prim.search rules };
 
-    ghost held = { first_of (Prim.search rules, Prim.grind (arith, Self.row.coded.inj)) };
+    ghost held = { Prim.search rules };
 
-    ghost plain = { first_of (Prim.search rules, Prim.grind (arith, Self.row.coded.inj)) };
+    ghost plain = { Prim.search rules };
 
-    ghost fits = { first_of (Prim.search rules, Prim.grind (arith, Self.row.coded.inj)) };
+    ghost fits = { Prim.search rules };
 
-    ghost valued = { first_of (Prim.search rules, Prim.grind (arith, Self.row.coded.inj)) };
+    ghost valued = { Prim.search rules };
 
     ghost again = { below_again (2 ^ 16) (λ n h. record { hall = n / 4096; row = n / 64 % 64; socket = n % 64; halls = hall_fits n h; rows = row_fits n; sockets = socket_fits n }) (λ x. x.hall * 4096 + x.row * 64 + x.socket) (λ x. packed_below x.hall x.row x.socket x.halls x.rows x.sockets) (λ x h. same_three (λ a b c i j k. record { hall = a; row = b; socket = c; halls = i; rows = j; sockets = k }) (packed_hall x.hall x.row x.socket x.rows x.sockets) (packed_row x.hall x.row x.socket x.rows x.sockets) (packed_socket x.hall x.row x.socket x.sockets) (hall_fits (x.hall * 4096 + x.row * 64 + x.socket) h) (row_fits (x.hall * 4096 + x.row * 64 + x.socket)) (socket_fits (x.hall * 4096 + x.row * 64 + x.socket)) x.halls x.rows x.sockets) };
 
-    ghost back = { first_of (Prim.search rules, Prim.grind (arith, Self.row.coded.inj)) };
-
-    fn kind() -> u8 {
-        Self::CODE
-    }
-
-    fn size_in_bits() -> u32 {
-        16
-    }
+    ghost back = { Prim.search rules };
 
     fn read(from: u16) -> Result<Self, PatternFault> {
-        Ok(Socket::unpack(from))
+        Ok(Socket::from(from))
     }
 
     fn write(&self) -> u16 {
-        self.pack()
+        u16::from(*self)
     }
 }
 
 impl Address for Socket {
     const WIDTH: u32 = 16;
 
-    ghost width = { 16 };
+    ghost WIDTH = { 16 };
 
     ghost spells = { bits 16 };
 
     ghost string = { λ x. bits 16 (x.hall * 4096 + x.row * 64 + x.socket) };
 
-    ghost span = { first_of (Prim.search rules, Prim.grind (arith, Self.row.coded.inj)) };
+    ghost span = { Prim.search rules };
 
-    ghost first = { first_of (Prim.search rules, Prim.grind (arith, Self.row.coded.inj)) };
+    ghost first = { Prim.search rules };
 
-    ghost spelt = { first_of (Prim.search rules, Prim.grind (arith, Self.row.coded.inj)) };
+    ghost spelt = { Prim.search rules };
 
     ghost long = { λ x. length_bits 16 (x.hall * 4096 + x.row * 64 + x.socket) };
 
     ghost every = { λ n h. ap is_some (below_some (2 ^ 16) (λ m k. record { hall = m / 4096; row = m / 64 % 64; socket = m % 64; halls = hall_fits m k; rows = row_fits m; sockets = socket_fits m }) n h) };
 
-    fn width_in_bits() -> u32 {
-        Self::WIDTH
-    }
-
     fn of(from: u16) -> Self {
-        Socket::unpack(from)
-    }
-
-    fn bit(&self, i: u32) -> bool {
-        let all = self.pack();
-        if i < Self::WIDTH {
-            (all >> (15 - i)) % 2 == 1
-        } else {
-            false
-        }
+        Socket::from(from)
     }
 }

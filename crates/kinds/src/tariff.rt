@@ -1,5 +1,6 @@
 // Tariffs: cost kind 2, a class from 0 to 9 (4 bits) and a price (28 bits); the smaller class is before, then the smaller price.
-ghost use Rattle.std.specs.Prelude.{◌≡◌, ℕ, ◌+◌, ◌*◌, ◌/◌, ◌%◌, ◌^◌, ◌<◌, ◌≤◌, MatchOption};
+ghost use Rattle.std.specs.Prelude.{◌≡◌, ℕ, ◌+◌, ◌*◌, ◌/◌, ◌%◌, ◌^◌, ◌<◌, ◌≤◌, MatchOption, MatchResult};
+ghost use Rattle.kinds.specs.declared.written.PatternFault.TheVariants.{Unlawful};
 ghost use Rattle.std.specs.Ordering.{ordering_then};
 ghost use Rattle.kinds.specs.Ordered.{by_number};
 ghost use Rattle.kinds.specs.Parts.{class_fits, price_fits, priced_class, priced_price, priced_below};
@@ -11,7 +12,7 @@ use crate::cost::Cost;
 use crate::written::{PatternFault, Written};
 use std::cmp::Ordering;
 
-#[derive(Clone, Copy, PartialEq, Eq, Debug)]
+#[derive(Clone, Copy, PartialEq, Eq, PartialOrd, Ord, Debug)]
 pub struct Tariff {
     class: u8,
     price: u32,
@@ -49,20 +50,33 @@ impl Tariff {
     {
         self.compare(other)
     }
+}
 
-    // The tariff that is packed into a number, or none where its class is too large.
-    fn unpack(from: u32) -> Option<Tariff>
-        ensures { MatchOption result (10 * 2 ^ 28 ≤ from) (λ x. x.class * 2 ^ 28 + x.price ≡ from) }
-    {
-        let class = (from >> 28) as u8;
+// The tariff that is packed into a number; a number whose class is too large is refused.
+impl TryFrom<u32> for Tariff {
+    type Error = PatternFault;
+
+    ghost try_from_gives = { λ n r. MatchResult r (λ x. x.class * 2 ^ 28 + x.price ≡ n) (λ e. (e ≡ Unlawful) × (10 * 2 ^ 28 ≤ n)) };
+
+    fn try_from(number: u32) -> Result<Tariff, PatternFault> {
+        let class = (number >> 28) as u8;
         if class < 10 {
-            Some(Tariff {
+            Ok(Tariff {
                 class,
-                price: low_28(from),
+                price: low_28(number),
             })
         } else {
-            None
+            Err(PatternFault::Unlawful)
         }
+    }
+}
+
+// The number into which a tariff is packed.
+impl From<Tariff> for u32 {
+    ghost from_gives = { λ x n. n ≡ x.class * 2 ^ 28 + x.price };
+
+    fn from(tariff: Tariff) -> u32 {
+        (tariff.class as u32) << 28 | tariff.price
     }
 }
 
@@ -78,9 +92,11 @@ impl Written for Tariff {
 
     const CODE: u8 = 2;
 
-    ghost code = { 2 };
+    const SIZE: u32 = 32;
 
-    ghost size = { 32 };
+    ghost CODE = { 2 };
+
+    ghost SIZE = { 32 };
 
     ghost number = { λ p. p };
 
@@ -90,53 +106,41 @@ impl Written for Tariff {
 
     ghost value = { below (10 * 2 ^ 28) (λ n h. record { class = n / 2 ^ 28; price = n % 2 ^ 28; classes = class_fits n h; prices = price_fits n }) };
 
-    ghost low = { first_of (Prim.search rules, Prim.grind (arith, Self.row.coded.inj)) };
+    ghost low = { Prim.search rules };
 
-    ghost bytes = { first_of (Prim.search rules, Prim.grind (arith, Self.row.coded.inj)) };
+    ghost bytes = { Prim.search rules };
 
-    ghost short = { first_of (Prim.search rules, Prim.grind (arith, Self.row.coded.inj)) };
+    ghost short = { Prim.search rules };
 
-    ghost held = { first_of (Prim.search rules, Prim.grind (arith, Self.row.coded.inj)) };
+    ghost held = { Prim.search rules };
 
-    ghost plain = { first_of (Prim.search rules, Prim.grind (arith, Self.row.coded.inj)) };
+    ghost plain = { Prim.search rules };
 
-    ghost fits = { first_of (Prim.search rules, Prim.grind (arith, Self.row.coded.inj)) };
+    ghost fits = { Prim.search rules };
 
-    ghost valued = { first_of (Prim.search rules, Prim.grind (arith, Self.row.coded.inj)) };
+    ghost valued = { Prim.search rules };
 
     ghost again = { below_again (10 * 2 ^ 28) (λ n h. record { class = n / 2 ^ 28; price = n % 2 ^ 28; classes = class_fits n h; prices = price_fits n }) (λ x. x.class * 2 ^ 28 + x.price) (λ x. priced_below x.class x.price x.classes x.prices) (λ x h. same_two (λ c p i j. record { class = c; price = p; classes = i; prices = j }) (priced_class x.class x.price x.prices) (priced_price x.class x.price x.prices) (class_fits (x.class * 2 ^ 28 + x.price) h) (price_fits (x.class * 2 ^ 28 + x.price)) x.classes x.prices) };
 
-    ghost back = { first_of (Prim.search rules, Prim.grind (arith, Self.row.coded.inj)) };
-
-    fn kind() -> u8 {
-        Self::CODE
-    }
-
-    fn size_in_bits() -> u32 {
-        32
-    }
+    ghost back = { Prim.search rules };
 
     fn read(from: u32) -> Result<Self, PatternFault> {
-        match Tariff::unpack(from) {
-            Some(tariff) => Ok(tariff),
-            None => Err(PatternFault::Unlawful),
-        }
+        Tariff::try_from(from)
     }
 
     fn write(&self) -> u32 {
-        (self.class as u32) << 28 | self.price
+        u32::from(*self)
     }
 }
 
 impl Cost for Tariff {
     ghost order = { λ x y. ordering_then (by_number x.class y.class) (by_number x.price y.price) };
 
-    ghost exchange = { first_of (Prim.search rules, Prim.grind (arith, Self.row.coded.inj)) };
+    ghost exchange = { Prim.search rules };
 
-    ghost chain = { first_of (Prim.search rules, Prim.grind (arith, Self.row.coded.inj)) };
+    ghost chain = { Prim.search rules };
 
     fn compare(&self, other: &Self) -> Ordering {
-        let classes = self.class.cmp(&other.class);
-        classes.then(self.price.cmp(&other.price))
+        self.cmp(other)
     }
 }

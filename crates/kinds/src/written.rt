@@ -27,14 +27,17 @@ impl PatternFault {
 pub trait Written: Copy {
     type Pattern: Plain;
 
+    // the code of the kind, and how many bits a pattern has
     const CODE: u8;
 
-    // the code, the number of bits, a pattern as a number, the pattern of a value, and what a pattern reads as, and the number
-    // of one: nothing where it is unlawful
-    ghost code: { ℕ };
+    const SIZE: u32;
 
-    ghost size: { ℕ };
+    ghost CODE: { ℕ };
 
+    ghost SIZE: { ℕ };
+
+    // a pattern as a number, the pattern of a value, and what a pattern reads as, and the number of one: nothing where it is
+    // unlawful
     ghost number: { Self.Pattern → ℕ };
 
     ghost pattern: { Self → Self.Pattern };
@@ -43,12 +46,6 @@ pub trait Written: Copy {
 
     ghost value: { ℕ → Option Self };
 
-    fn kind() -> u8
-        ensures { result ≡ code };
-
-    fn size_in_bits() -> u32
-        ensures { result ≡ size };
-
     // The value of a lawful pattern; any other is refused.
     fn read(from: Self::Pattern) -> Result<Self, PatternFault>
         ensures { result ≡ ok_or (reads from) Unlawful };
@@ -56,17 +53,17 @@ pub trait Written: Copy {
     fn write(&self) -> Self::Pattern
         ensures { result ≡ pattern self.now };
 
-    ghost low: { code < 16 };
+    ghost low: { CODE < 16 };
 
-    ghost bytes: { size % 8 ≡ 0 };
+    ghost bytes: { SIZE % 8 ≡ 0 };
 
-    ghost short: { size ≤ 128 };
+    ghost short: { SIZE ≤ 128 };
 
-    ghost held: { size ≤ Self.Pattern.Plain.span };
+    ghost held: { SIZE ≤ Self.Pattern.Plain.BITS };
 
     ghost plain: { (p : Self.Pattern) → number p ≡ Self.Pattern.Plain.number p };
 
-    ghost fits: { (x : Self) → number (pattern x) < 2 ^ size };
+    ghost fits: { (x : Self) → number (pattern x) < 2 ^ SIZE };
 
     // a pattern reads as its number does
     ghost valued: { (p : Self.Pattern) → reads p ≡ value (number p) };

@@ -1,27 +1,19 @@
-use Rattle.std.proofs.Common.{◌≡◌, true, false, get_or, sym, ◌∙◌, add-one, arith}
+use Rattle.std.proofs.Common.{◌≡◌, ◌≤◌, length, take, ◌∙◌, rules, arith}
+use borrow.Author.Tests.{tests}
 use mathlib.Core.Bool.{beq}
-use Rattle.kinds.proofs.Agree.{agree_more, agree_apart, cut_whole}
+use Rattle.std.proofs.lemmas.Iterator.{YieldsList-from_zip}
+use Rattle.std.proofs.lemmas.Iterator.Consumers.{YieldsList-from_first}
+use Rattle.std.proofs.lemmas.Iterator.Search.{all_from_yields_List}
+use Rattle.std.proofs.lemmas.List.{length-take}
+use Rattle.kinds.proofs.Agree.{zip_starts}
 use Rattle.kinds.proofs.prefix.is_prefix.Goals as goal
-
-pub returns-then-not-agree_at : goal.returns-then-not-agree_at
-returns-then-not-agree_at g c =
-    let p = g.A.Address.string c.args.prefix.now in
-    let a = g.A.Address.string c.args.address.now in
-    let l = g.met.A.Address.long c.args.prefix.now ∙ sym (g.met.A.Address.long c.args.address.now) in
-    let q : beq (get_or p c.loop-i.i false) (get_or a c.loop-i.i false) ≡ false = sym c.agree_at.ensures ∙ c.if-not-agree_at.true in
-    sym (agree_apart c.loop-i.i c.args.length p a (omega (arith, c.min-i-end.ensures)) l q)
-
-pub loop-i-preserved : goal.loop-i-preserved
-loop-i-preserved g c =
-    let p = g.A.Address.string c.args.prefix.now in
-    let a = g.A.Address.string c.args.address.now in
-    let l = g.met.A.Address.long c.args.prefix.now ∙ sym (g.met.A.Address.long c.args.address.now) in
-    let q : beq (get_or p c.loop-i.i false) (get_or a c.loop-i.i false) ≡ true = sym c.agree_at.ensures ∙ c.if-not-agree_at.false in
-    rw add-one (agree_more c.loop-i.i p a l c.loop-i.invariant q)
 
 pub returns : goal.returns
 returns g c =
-    let p = g.A.Address.string c.args.prefix.now in
+    let p = take c.args.length (g.A.Address.string c.args.prefix.now) in
     let a = g.A.Address.string c.args.address.now in
-    sym c.loop-i.invariant
-    ∙ cut_whole c.args.length g.A.Address.width c.loop-i.i p a (g.met.A.Address.long c.args.prefix.now) (omega (arith, c.min-i-end.ensures, c.width_in_bits.ensures)) (omega (arith, c.min-i-end.ensures, c.width_in_bits.ensures))
+    let long = g.met.A.Address.long c.args.prefix.now in
+    let as_long = g.met.A.Address.long c.args.address.now in
+    all_from_yields_List (λ b. beq b.0 b.1) _ _ c.all.result c.all.ensures.ran
+    (YieldsList-from_zip (YieldsList-from_first (λ x. x) (λ s. s) p (cc)) (YieldsList-from_first (λ x. x) (λ s. s) a (cc))) (λ x b q k. search (rules, tests))
+    ∙ zip_starts p a (omega (arith, length-take c.args.length (g.A.Address.string c.args.prefix.now)))
