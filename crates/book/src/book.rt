@@ -99,14 +99,14 @@ impl<'m, D: Address, S: Address, C: Cost> Book<'m, D, S, C> {
 
     // The first refusal of a filter that comes to this book.
     fn check(&self, filter: &Filter<D, S, C>) -> Result<(), FilterFault>
-        ensures { result ≡ filter_verdict D.Address.string S.Address.string D.Address.width S.Address.width (has filter.now.label (labels (take self.now.used self.now.places.now))) filter.now }
+        ensures { result ≡ filter_verdict D.Address.string S.Address.string D.Address.WIDTH S.Address.WIDTH (has filter.now.label (labels (take self.now.used self.now.places.now))) filter.now }
     {
         check_filter(filter, self.contains(filter.label))
     }
 
     // Puts a filter behind the last. A refused filter changes nothing.
     pub fn add(&mut self, filter: &Filter<D, S, C>) -> Result<(), AddFault>
-        ensures answer { result ≡ add_verdict (capacity_of (length self.old.places.now)) self.old.used (filter_verdict D.Address.string S.Address.string D.Address.width S.Address.width (has filter.now.label (labels (take self.old.used self.old.places.now))) filter.now) }
+        ensures answer { result ≡ add_verdict (capacity_of (length self.old.places.now)) self.old.used (filter_verdict D.Address.string S.Address.string D.Address.WIDTH S.Address.WIDTH (has filter.now.label (labels (take self.old.used self.old.places.now))) filter.now) }
         ensures memory { self.new.places.now ≡ after result (slice_set self.old.places.now self.old.used (record_of D.Written.pattern S.Written.pattern C.Written.pattern filter.now)) self.old.places.now }
         ensures count { self.new.used ≡ after result (self.old.used + 1) self.old.used }
         ensures meaning { rules D.Address.spells S.Address.spells C.Written.reads (take self.new.used self.new.places.now) ≡ after result (rules D.Address.spells S.Address.spells C.Written.reads (take self.old.used self.old.places.now) ++ rule_of D.Address.string S.Address.string filter.now ∷ []) (rules D.Address.spells S.Address.spells C.Written.reads (take self.old.used self.old.places.now)) }
@@ -140,10 +140,10 @@ impl<'m, D: Address, S: Address, C: Cost> Book<'m, D, S, C> {
     // Makes the book exactly the filters of a table, in its order; places behind them stay. The whole table is checked before
     // the first place is written, so a refused table changes nothing. It answers how many filters the table has.
     pub fn load(&mut self, table: &[u8]) -> Result<usize, LoadFault>
-        ensures answer { result ≡ load_verdict (kind D.Written.code D.Written.size) (kind S.Written.code S.Written.size) (kind C.Written.code C.Written.size) C.Written.value (capacity_of (length self.old.places.now)) table.now }
-        ensures memory { Loaded (entry_of D.Written.number S.Written.number C.Written.number) (decode (kind D.Written.code D.Written.size) (kind S.Written.code S.Written.size) (kind C.Written.code C.Written.size) table.now) self.old.places.now self.new.places.now result }
+        ensures answer { result ≡ load_verdict (kind D.Written.CODE D.Written.SIZE) (kind S.Written.CODE S.Written.SIZE) (kind C.Written.CODE C.Written.SIZE) C.Written.value (capacity_of (length self.old.places.now)) table.now }
+        ensures memory { Loaded (entry_of D.Written.number S.Written.number C.Written.number) (decode (kind D.Written.CODE D.Written.SIZE) (kind S.Written.CODE S.Written.SIZE) (kind C.Written.CODE C.Written.SIZE) table.now) self.old.places.now self.new.places.now result }
         ensures count { self.new.used ≡ count_after result self.old.used }
-        ensures meaning { rules D.Address.spells S.Address.spells C.Written.reads (take self.new.used self.new.places.now) ≡ after result (table_rules (kind D.Written.code D.Written.size) (kind S.Written.code S.Written.size) (kind C.Written.code C.Written.size) C.Written.value table.now) (rules D.Address.spells S.Address.spells C.Written.reads (take self.old.used self.old.places.now)) }
+        ensures meaning { rules D.Address.spells S.Address.spells C.Written.reads (take self.new.used self.new.places.now) ≡ after result (table_rules (kind D.Written.CODE D.Written.SIZE) (kind S.Written.CODE S.Written.SIZE) (kind C.Written.CODE C.Written.SIZE) C.Written.value table.now) (rules D.Address.spells S.Address.spells C.Written.reads (take self.old.used self.old.places.now)) }
     {
         let Book { places, used } = self;
         match load_table::<D, S, C>(table, places) {
@@ -157,8 +157,8 @@ impl<'m, D: Address, S: Address, C: Cost> Book<'m, D, S, C> {
 
     // Writes the book as a table from the buffer's start, and answers how many bytes that is; book and later bytes stay.
     pub fn write(&self, buffer: &mut [u8]) -> Result<usize, WriteFault>
-        ensures answer { result ≡ write_verdict (kind D.Written.code D.Written.size) (kind S.Written.code S.Written.size) (kind C.Written.code C.Written.size) self.now.used (length buffer.old) }
-        ensures memory { buffer.new ≡ written result (encode (kind D.Written.code D.Written.size) (kind S.Written.code S.Written.size) (kind C.Written.code C.Written.size) (map (entry_of D.Written.number S.Written.number C.Written.number) (take self.now.used self.now.places.now))) buffer.old }
+        ensures answer { result ≡ write_verdict (kind D.Written.CODE D.Written.SIZE) (kind S.Written.CODE S.Written.SIZE) (kind C.Written.CODE C.Written.SIZE) self.now.used (length buffer.old) }
+        ensures memory { buffer.new ≡ written result (encode (kind D.Written.CODE D.Written.SIZE) (kind S.Written.CODE S.Written.SIZE) (kind C.Written.CODE C.Written.SIZE) (map (entry_of D.Written.number S.Written.number C.Written.number) (take self.now.used self.now.places.now))) buffer.old }
     {
         write_table::<D, S, C>(self.records(), buffer)
     }

@@ -24,7 +24,7 @@ fn check_prefixes<D: Address, S: Address>(
     source: &Prefix<S::Pattern>,
     directive: Directive,
 ) -> Result<(), FilterFault>
-    ensures { result ≡ body_verdict (bits D.Written.size) (bits S.Written.size) D.Written.size S.Written.size (respelt D.Written.number destination.now) (respelt S.Written.number source.now) directive }
+    ensures { result ≡ body_verdict (bits D.Written.SIZE) (bits S.Written.SIZE) D.Written.SIZE S.Written.SIZE (respelt D.Written.number destination.now) (respelt S.Written.number source.now) directive }
 {
     let first = Prefix {
         address: D::of(destination.address),
@@ -42,8 +42,8 @@ fn check_record<D: Address, S: Address, C: Cost>(
     place: &Record<D::Pattern, S::Pattern, C::Pattern>,
     used: bool,
 ) -> Result<(), RecordFault>
-    ensures answer { (lawful : ℕ → Bool) → Tells C.Written.number C.Written.reads lawful → result ≡ entry_verdict (kind D.Written.code D.Written.size) (kind S.Written.code S.Written.size) (kind C.Written.code C.Written.size) lawful used (entry_of D.Written.number S.Written.number C.Written.number place.now) }
-    ensures passed { OnOk result (entry_verdict (kind D.Written.code D.Written.size) (kind S.Written.code S.Written.size) (kind C.Written.code C.Written.size) (λ _. true) used (entry_of D.Written.number S.Written.number C.Written.number place.now) ≡ Ok tt) }
+    ensures answer { (lawful : ℕ → Bool) → Tells C.Written.number C.Written.reads lawful → result ≡ entry_verdict (kind D.Written.CODE D.Written.SIZE) (kind S.Written.CODE S.Written.SIZE) (kind C.Written.CODE C.Written.SIZE) lawful used (entry_of D.Written.number S.Written.number C.Written.number place.now) }
+    ensures passed { OnOk result (entry_verdict (kind D.Written.CODE D.Written.SIZE) (kind S.Written.CODE S.Written.SIZE) (kind C.Written.CODE C.Written.SIZE) (λ _. true) used (entry_of D.Written.number S.Written.number C.Written.number place.now) ≡ Ok tt) }
 {
     if place.label == 0 {
         return Err(RecordFault::Filter(FilterFault::ZeroLabel));
@@ -58,8 +58,8 @@ fn check_record<D: Address, S: Address, C: Cost>(
 
 // Whether one of the first `count` records has the label.
 fn is_label_before<D: Address, S: Address, C: Cost>(bytes: &[u8], count: usize, label: u16) -> bool
-    requires { (table_size (kind D.Written.code D.Written.size) (kind S.Written.code S.Written.size) (kind C.Written.code C.Written.size) count ≤ length bytes.now) × (count ≤ 4095) }
-    ensures { result ≡ has label (labels (decode_records (kind D.Written.code D.Written.size) (kind S.Written.code S.Written.size) (kind C.Written.code C.Written.size) count (drop 4 bytes.now))) }
+    requires { (table_size (kind D.Written.CODE D.Written.SIZE) (kind S.Written.CODE S.Written.SIZE) (kind C.Written.CODE C.Written.SIZE) count ≤ length bytes.now) × (count ≤ 4095) }
+    ensures { result ≡ has label (labels (decode_records (kind D.Written.CODE D.Written.SIZE) (kind S.Written.CODE S.Written.SIZE) (kind C.Written.CODE C.Written.SIZE) count (drop 4 bytes.now))) }
 {
     let size = record_size::<D, S, C>();
     for earlier in 0..count {
@@ -86,9 +86,9 @@ fn in_record(i: usize, answer: Result<(), RecordFault>) -> Result<(), InRecord>
 
 // The refusal of the record at a place, counted from 0.
 fn check_at<D: Address, S: Address, C: Cost>(bytes: &[u8], i: usize) -> Result<(), InRecord>
-    requires { (table_size (kind D.Written.code D.Written.size) (kind S.Written.code S.Written.size) (kind C.Written.code C.Written.size) (i + 1) ≤ length bytes.now) × (i < 4095) }
-    ensures answer { (lawful : ℕ → Bool) → Tells C.Written.number C.Written.reads lawful → result ≡ counted (i + 1) (entry_verdict (kind D.Written.code D.Written.size) (kind S.Written.code S.Written.size) (kind C.Written.code C.Written.size) lawful (has (decode_record (kind D.Written.code D.Written.size) (kind S.Written.code S.Written.size) (kind C.Written.code C.Written.size) (drop (4 + i * record_size (kind D.Written.code D.Written.size) (kind S.Written.code S.Written.size) (kind C.Written.code C.Written.size)) bytes.now)).label (labels (decode_records (kind D.Written.code D.Written.size) (kind S.Written.code S.Written.size) (kind C.Written.code C.Written.size) i (drop 4 bytes.now)))) (decode_record (kind D.Written.code D.Written.size) (kind S.Written.code S.Written.size) (kind C.Written.code C.Written.size) (drop (4 + i * record_size (kind D.Written.code D.Written.size) (kind S.Written.code S.Written.size) (kind C.Written.code C.Written.size)) bytes.now))) }
-    ensures passed { OnOk result (entry_verdict (kind D.Written.code D.Written.size) (kind S.Written.code S.Written.size) (kind C.Written.code C.Written.size) (λ _. true) (has (decode_record (kind D.Written.code D.Written.size) (kind S.Written.code S.Written.size) (kind C.Written.code C.Written.size) (drop (4 + i * record_size (kind D.Written.code D.Written.size) (kind S.Written.code S.Written.size) (kind C.Written.code C.Written.size)) bytes.now)).label (labels (decode_records (kind D.Written.code D.Written.size) (kind S.Written.code S.Written.size) (kind C.Written.code C.Written.size) i (drop 4 bytes.now)))) (decode_record (kind D.Written.code D.Written.size) (kind S.Written.code S.Written.size) (kind C.Written.code C.Written.size) (drop (4 + i * record_size (kind D.Written.code D.Written.size) (kind S.Written.code S.Written.size) (kind C.Written.code C.Written.size)) bytes.now)) ≡ Ok tt) }
+    requires { (table_size (kind D.Written.CODE D.Written.SIZE) (kind S.Written.CODE S.Written.SIZE) (kind C.Written.CODE C.Written.SIZE) (i + 1) ≤ length bytes.now) × (i < 4095) }
+    ensures answer { (lawful : ℕ → Bool) → Tells C.Written.number C.Written.reads lawful → result ≡ counted (i + 1) (entry_verdict (kind D.Written.CODE D.Written.SIZE) (kind S.Written.CODE S.Written.SIZE) (kind C.Written.CODE C.Written.SIZE) lawful (has (decode_record (kind D.Written.CODE D.Written.SIZE) (kind S.Written.CODE S.Written.SIZE) (kind C.Written.CODE C.Written.SIZE) (drop (4 + i * record_size (kind D.Written.CODE D.Written.SIZE) (kind S.Written.CODE S.Written.SIZE) (kind C.Written.CODE C.Written.SIZE)) bytes.now)).label (labels (decode_records (kind D.Written.CODE D.Written.SIZE) (kind S.Written.CODE S.Written.SIZE) (kind C.Written.CODE C.Written.SIZE) i (drop 4 bytes.now)))) (decode_record (kind D.Written.CODE D.Written.SIZE) (kind S.Written.CODE S.Written.SIZE) (kind C.Written.CODE C.Written.SIZE) (drop (4 + i * record_size (kind D.Written.CODE D.Written.SIZE) (kind S.Written.CODE S.Written.SIZE) (kind C.Written.CODE C.Written.SIZE)) bytes.now))) }
+    ensures passed { OnOk result (entry_verdict (kind D.Written.CODE D.Written.SIZE) (kind S.Written.CODE S.Written.SIZE) (kind C.Written.CODE C.Written.SIZE) (λ _. true) (has (decode_record (kind D.Written.CODE D.Written.SIZE) (kind S.Written.CODE S.Written.SIZE) (kind C.Written.CODE C.Written.SIZE) (drop (4 + i * record_size (kind D.Written.CODE D.Written.SIZE) (kind S.Written.CODE S.Written.SIZE) (kind C.Written.CODE C.Written.SIZE)) bytes.now)).label (labels (decode_records (kind D.Written.CODE D.Written.SIZE) (kind S.Written.CODE S.Written.SIZE) (kind C.Written.CODE C.Written.SIZE) i (drop 4 bytes.now)))) (decode_record (kind D.Written.CODE D.Written.SIZE) (kind S.Written.CODE S.Written.SIZE) (kind C.Written.CODE C.Written.SIZE) (drop (4 + i * record_size (kind D.Written.CODE D.Written.SIZE) (kind S.Written.CODE S.Written.SIZE) (kind C.Written.CODE C.Written.SIZE)) bytes.now)) ≡ Ok tt) }
 {
     let place = record_at::<D, S, C>(bytes, 4 + i * record_size::<D, S, C>());
     let used = is_label_before::<D, S, C>(bytes, i, place.label);
@@ -100,9 +100,9 @@ fn check_records<D: Address, S: Address, C: Cost>(
     bytes: &[u8],
     count: usize,
 ) -> Result<usize, LoadFault>
-    requires { (table_size (kind D.Written.code D.Written.size) (kind S.Written.code S.Written.size) (kind C.Written.code C.Written.size) count ≤ length bytes.now) × (count ≤ 4095) }
-    ensures answer { (lawful : ℕ → Bool) → Tells C.Written.number C.Written.reads lawful → result ≡ entries_verdict (kind D.Written.code D.Written.size) (kind S.Written.code S.Written.size) (kind C.Written.code C.Written.size) lawful [] (decode_records (kind D.Written.code D.Written.size) (kind S.Written.code S.Written.size) (kind C.Written.code C.Written.size) count (drop 4 bytes.now)) }
-    ensures passed { IfOk result (λ n. (n ≡ count) × (entries_verdict (kind D.Written.code D.Written.size) (kind S.Written.code S.Written.size) (kind C.Written.code C.Written.size) (λ _. true) [] (decode_records (kind D.Written.code D.Written.size) (kind S.Written.code S.Written.size) (kind C.Written.code C.Written.size) count (drop 4 bytes.now)) ≡ Ok count)) }
+    requires { (table_size (kind D.Written.CODE D.Written.SIZE) (kind S.Written.CODE S.Written.SIZE) (kind C.Written.CODE C.Written.SIZE) count ≤ length bytes.now) × (count ≤ 4095) }
+    ensures answer { (lawful : ℕ → Bool) → Tells C.Written.number C.Written.reads lawful → result ≡ entries_verdict (kind D.Written.CODE D.Written.SIZE) (kind S.Written.CODE S.Written.SIZE) (kind C.Written.CODE C.Written.SIZE) lawful [] (decode_records (kind D.Written.CODE D.Written.SIZE) (kind S.Written.CODE S.Written.SIZE) (kind C.Written.CODE C.Written.SIZE) count (drop 4 bytes.now)) }
+    ensures passed { IfOk result (λ n. (n ≡ count) × (entries_verdict (kind D.Written.CODE D.Written.SIZE) (kind S.Written.CODE S.Written.SIZE) (kind C.Written.CODE C.Written.SIZE) (λ _. true) [] (decode_records (kind D.Written.CODE D.Written.SIZE) (kind S.Written.CODE S.Written.SIZE) (kind C.Written.CODE C.Written.SIZE) count (drop 4 bytes.now)) ≡ Ok count)) }
 {
     for i in 0..count {
         check_at::<D, S, C>(bytes, i)?;
@@ -115,16 +115,16 @@ fn check_head<D: Address, S: Address, C: Cost>(
     bytes: &[u8],
     capacity: usize,
 ) -> Result<usize, TableFault>
-    ensures { result ≡ head_verdict (kind D.Written.code D.Written.size) (kind S.Written.code S.Written.size) (kind C.Written.code C.Written.size) capacity bytes.now }
+    ensures { result ≡ head_verdict (kind D.Written.CODE D.Written.SIZE) (kind S.Written.CODE S.Written.SIZE) (kind C.Written.CODE C.Written.SIZE) capacity bytes.now }
 {
     if bytes.len() < 4 {
         return Err(TableFault::Short);
     }
     let head = Head::unpack(number_at(bytes, 0, 4) as u32);
     if head.edition != 1
-        || head.destination != D::kind()
-        || head.source != S::kind()
-        || head.cost != C::kind()
+        || head.destination != D::CODE
+        || head.source != S::CODE
+        || head.cost != C::CODE
     {
         return Err(TableFault::Kind);
     }
@@ -145,8 +145,8 @@ pub fn check_table<D: Address, S: Address, C: Cost>(
     bytes: &[u8],
     capacity: usize,
 ) -> Result<usize, LoadFault>
-    ensures answer { (lawful : ℕ → Bool) → Tells C.Written.number C.Written.reads lawful → result ≡ table_verdict (kind D.Written.code D.Written.size) (kind S.Written.code S.Written.size) (kind C.Written.code C.Written.size) lawful capacity bytes.now }
-    ensures accepted { IfOk result (λ n. (n ≡ filter_count bytes.now) × (length bytes.now ≡ table_size (kind D.Written.code D.Written.size) (kind S.Written.code S.Written.size) (kind C.Written.code C.Written.size) n) × (n ≤ capacity) × (table_verdict (kind D.Written.code D.Written.size) (kind S.Written.code S.Written.size) (kind C.Written.code C.Written.size) (λ _. true) capacity bytes.now ≡ Ok n)) }
+    ensures answer { (lawful : ℕ → Bool) → Tells C.Written.number C.Written.reads lawful → result ≡ table_verdict (kind D.Written.CODE D.Written.SIZE) (kind S.Written.CODE S.Written.SIZE) (kind C.Written.CODE C.Written.SIZE) lawful capacity bytes.now }
+    ensures accepted { IfOk result (λ n. (n ≡ filter_count bytes.now) × (length bytes.now ≡ table_size (kind D.Written.CODE D.Written.SIZE) (kind S.Written.CODE S.Written.SIZE) (kind C.Written.CODE C.Written.SIZE) n) × (n ≤ capacity) × (table_verdict (kind D.Written.CODE D.Written.SIZE) (kind S.Written.CODE S.Written.SIZE) (kind C.Written.CODE C.Written.SIZE) (λ _. true) capacity bytes.now ≡ Ok n)) }
 {
     let count = check_head::<D, S, C>(bytes, capacity)?;
     check_records::<D, S, C>(bytes, count)

@@ -25,8 +25,8 @@ fn read_records<D: Address, S: Address, C: Cost>(
     count: usize,
     places: &mut [Record<D::Pattern, S::Pattern, C::Pattern>],
 )
-    requires { (table_size (kind D.Written.code D.Written.size) (kind S.Written.code S.Written.size) (kind C.Written.code C.Written.size) count ≤ length bytes.now) × ((count ≤ length places.old) × (count ≤ 4095)) }
-    ensures read { map (entry_of D.Written.number S.Written.number C.Written.number) (take count places.new) ≡ decode_records (kind D.Written.code D.Written.size) (kind S.Written.code S.Written.size) (kind C.Written.code C.Written.size) count (drop 4 bytes.now) }
+    requires { (table_size (kind D.Written.CODE D.Written.SIZE) (kind S.Written.CODE S.Written.SIZE) (kind C.Written.CODE C.Written.SIZE) count ≤ length bytes.now) × ((count ≤ length places.old) × (count ≤ 4095)) }
+    ensures read { map (entry_of D.Written.number S.Written.number C.Written.number) (take count places.new) ≡ decode_records (kind D.Written.CODE D.Written.SIZE) (kind S.Written.CODE S.Written.SIZE) (kind C.Written.CODE C.Written.SIZE) count (drop 4 bytes.now) }
     ensures kept { drop count places.new ≡ drop count places.old }
 {
     let size = record_size::<D, S, C>();
@@ -41,10 +41,10 @@ pub fn load_table<D: Address, S: Address, C: Cost>(
     bytes: &[u8],
     places: &mut [Record<D::Pattern, S::Pattern, C::Pattern>],
 ) -> Result<usize, LoadFault>
-    ensures answer { (lawful : ℕ → Bool) → Tells C.Written.number C.Written.reads lawful → result ≡ table_verdict (kind D.Written.code D.Written.size) (kind S.Written.code S.Written.size) (kind C.Written.code C.Written.size) lawful (length places.old) bytes.now }
-    ensures accepted { IfOk result (λ n. table_verdict (kind D.Written.code D.Written.size) (kind S.Written.code S.Written.size) (kind C.Written.code C.Written.size) (λ _. true) (length places.old) bytes.now ≡ Ok n) }
-    ensures labels { OnOk result (Labelled (decode (kind D.Written.code D.Written.size) (kind S.Written.code S.Written.size) (kind C.Written.code C.Written.size) bytes.now)) }
-    ensures memory { Loaded (entry_of D.Written.number S.Written.number C.Written.number) (decode (kind D.Written.code D.Written.size) (kind S.Written.code S.Written.size) (kind C.Written.code C.Written.size) bytes.now) places.old places.new result }
+    ensures answer { (lawful : ℕ → Bool) → Tells C.Written.number C.Written.reads lawful → result ≡ table_verdict (kind D.Written.CODE D.Written.SIZE) (kind S.Written.CODE S.Written.SIZE) (kind C.Written.CODE C.Written.SIZE) lawful (length places.old) bytes.now }
+    ensures accepted { IfOk result (λ n. table_verdict (kind D.Written.CODE D.Written.SIZE) (kind S.Written.CODE S.Written.SIZE) (kind C.Written.CODE C.Written.SIZE) (λ _. true) (length places.old) bytes.now ≡ Ok n) }
+    ensures labels { OnOk result (Labelled (decode (kind D.Written.CODE D.Written.SIZE) (kind S.Written.CODE S.Written.SIZE) (kind C.Written.CODE C.Written.SIZE) bytes.now)) }
+    ensures memory { Loaded (entry_of D.Written.number S.Written.number C.Written.number) (decode (kind D.Written.CODE D.Written.SIZE) (kind S.Written.CODE S.Written.SIZE) (kind C.Written.CODE C.Written.SIZE) bytes.now) places.old places.new result }
 {
     let count = check_table::<D, S, C>(bytes, places.len())?;
     read_records::<D, S, C>(bytes, count, places);

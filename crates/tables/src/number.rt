@@ -31,16 +31,16 @@ pub(crate) fn put_number(buffer: &mut [u8], at: usize, count: usize, n: u128)
 
 // The pattern of a kind that the bytes from `at` on are.
 pub(crate) fn pattern_at<W: Written>(bytes: &[u8], at: usize) -> W::Pattern
-    requires { at + W.Written.size / 8 ≤ length bytes.now }
-    ensures { W.Written.number result ≡ word (take (W.Written.size / 8) (drop at bytes.now)) }
+    requires { at + W.Written.SIZE / 8 ≤ length bytes.now }
+    ensures { W.Written.number result ≡ word (take (W.Written.SIZE / 8) (drop at bytes.now)) }
 {
-    W::Pattern::narrow(number_at(bytes, at, W::size_in_bits() as usize / 8))
+    W::Pattern::narrow(number_at(bytes, at, W::SIZE as usize / 8))
 }
 
 // Writes a pattern from `at` on.
 pub(crate) fn put_pattern<W: Written>(buffer: &mut [u8], at: usize, pattern: W::Pattern)
-    requires { at + W.Written.size / 8 ≤ length buffer.old }
-    ensures { buffer.new ≡ paste buffer.old at (spelt (W.Written.size / 8) (W.Written.number pattern)) (W.Written.size / 8) }
+    requires { at + W.Written.SIZE / 8 ≤ length buffer.old }
+    ensures { buffer.new ≡ paste buffer.old at (spelt (W.Written.SIZE / 8) (W.Written.number pattern)) (W.Written.SIZE / 8) }
 {
-    put_number(buffer, at, W::size_in_bits() as usize / 8, pattern.wide());
+    put_number(buffer, at, W::SIZE as usize / 8, pattern.wide());
 }

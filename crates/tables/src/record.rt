@@ -12,15 +12,15 @@ use kinds::written::Written;
 
 // How many bytes a pattern of the kind has.
 fn bytes_of<W: Written>() -> usize
-    ensures size { result ≡ W.Written.size / 8 }
+    ensures size { result ≡ W.Written.SIZE / 8 }
     ensures short { result ≤ 16 }
 {
-    W::size_in_bits() as usize / 8
+    W::SIZE as usize / 8
 }
 
 // How many bytes a record has.
 pub(crate) fn record_size<D: Address, S: Address, C: Cost>() -> usize
-    ensures size { result ≡ record_size (kind D.Written.code D.Written.size) (kind S.Written.code S.Written.size) (kind C.Written.code C.Written.size) }
+    ensures size { result ≡ record_size (kind D.Written.CODE D.Written.SIZE) (kind S.Written.CODE S.Written.SIZE) (kind C.Written.CODE C.Written.SIZE) }
     ensures short { result ≤ 56 }
 {
     8 + bytes_of::<D>() + bytes_of::<S>() + bytes_of::<C>()
@@ -31,8 +31,8 @@ pub(crate) fn record_at<D: Address, S: Address, C: Cost>(
     bytes: &[u8],
     at: usize,
 ) -> Record<D::Pattern, S::Pattern, C::Pattern>
-    requires { at + record_size (kind D.Written.code D.Written.size) (kind S.Written.code S.Written.size) (kind C.Written.code C.Written.size) ≤ length bytes.now }
-    ensures { entry_of D.Written.number S.Written.number C.Written.number result ≡ decode_record (kind D.Written.code D.Written.size) (kind S.Written.code S.Written.size) (kind C.Written.code C.Written.size) (drop at bytes.now) }
+    requires { at + record_size (kind D.Written.CODE D.Written.SIZE) (kind S.Written.CODE S.Written.SIZE) (kind C.Written.CODE C.Written.SIZE) ≤ length bytes.now }
+    ensures { entry_of D.Written.number S.Written.number C.Written.number result ≡ decode_record (kind D.Written.CODE D.Written.SIZE) (kind S.Written.CODE S.Written.SIZE) (kind C.Written.CODE C.Written.SIZE) (drop at bytes.now) }
 {
     let source = at + 3 + bytes_of::<D>();
     let cost = source + 1 + bytes_of::<S>();
@@ -58,8 +58,8 @@ pub(crate) fn put_record<D: Address, S: Address, C: Cost>(
     at: usize,
     place: &Record<D::Pattern, S::Pattern, C::Pattern>,
 )
-    requires { at + record_size (kind D.Written.code D.Written.size) (kind S.Written.code S.Written.size) (kind C.Written.code C.Written.size) ≤ length buffer.old }
-    ensures { buffer.new ≡ paste buffer.old at (encode_record (kind D.Written.code D.Written.size) (kind S.Written.code S.Written.size) (kind C.Written.code C.Written.size) (entry_of D.Written.number S.Written.number C.Written.number place.now)) (record_size (kind D.Written.code D.Written.size) (kind S.Written.code S.Written.size) (kind C.Written.code C.Written.size)) }
+    requires { at + record_size (kind D.Written.CODE D.Written.SIZE) (kind S.Written.CODE S.Written.SIZE) (kind C.Written.CODE C.Written.SIZE) ≤ length buffer.old }
+    ensures { buffer.new ≡ paste buffer.old at (encode_record (kind D.Written.CODE D.Written.SIZE) (kind S.Written.CODE S.Written.SIZE) (kind C.Written.CODE C.Written.SIZE) (entry_of D.Written.number S.Written.number C.Written.number place.now)) (record_size (kind D.Written.CODE D.Written.SIZE) (kind S.Written.CODE S.Written.SIZE) (kind C.Written.CODE C.Written.SIZE)) }
 {
     let source = at + 3 + bytes_of::<D>();
     let cost = source + 1 + bytes_of::<S>();

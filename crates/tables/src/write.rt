@@ -16,13 +16,13 @@ use kinds::written::Written;
 // Writes the head of a table of `count` filters.
 fn put_head<D: Address, S: Address, C: Cost>(buffer: &mut [u8], count: u16)
     requires { 4 ≤ length buffer.old }
-    ensures { buffer.new ≡ paste buffer.old 0 (encode_head (kind D.Written.code D.Written.size) (kind S.Written.code S.Written.size) (kind C.Written.code C.Written.size) count) 4 }
+    ensures { buffer.new ≡ paste buffer.old 0 (encode_head (kind D.Written.CODE D.Written.SIZE) (kind S.Written.CODE S.Written.SIZE) (kind C.Written.CODE C.Written.SIZE) count) 4 }
 {
     let head = Head {
         edition: 1,
-        destination: D::kind(),
-        source: S::kind(),
-        cost: C::kind(),
+        destination: D::CODE,
+        source: S::CODE,
+        cost: C::CODE,
         count,
     };
     put_number(buffer, 0, 4, head.pack() as u128);
@@ -33,8 +33,8 @@ fn put_records<D: Address, S: Address, C: Cost>(
     places: &[Record<D::Pattern, S::Pattern, C::Pattern>],
     buffer: &mut [u8],
 )
-    requires { (table_size (kind D.Written.code D.Written.size) (kind S.Written.code S.Written.size) (kind C.Written.code C.Written.size) (length places.now) ≤ length buffer.old) × (length places.now ≤ 4095) }
-    ensures { buffer.new ≡ paste buffer.old 4 (encode_records (kind D.Written.code D.Written.size) (kind S.Written.code S.Written.size) (kind C.Written.code C.Written.size) (map (entry_of D.Written.number S.Written.number C.Written.number) places.now)) (length places.now * record_size (kind D.Written.code D.Written.size) (kind S.Written.code S.Written.size) (kind C.Written.code C.Written.size)) }
+    requires { (table_size (kind D.Written.CODE D.Written.SIZE) (kind S.Written.CODE S.Written.SIZE) (kind C.Written.CODE C.Written.SIZE) (length places.now) ≤ length buffer.old) × (length places.now ≤ 4095) }
+    ensures { buffer.new ≡ paste buffer.old 4 (encode_records (kind D.Written.CODE D.Written.SIZE) (kind S.Written.CODE S.Written.SIZE) (kind C.Written.CODE C.Written.SIZE) (map (entry_of D.Written.number S.Written.number C.Written.number) places.now)) (length places.now * record_size (kind D.Written.CODE D.Written.SIZE) (kind S.Written.CODE S.Written.SIZE) (kind C.Written.CODE C.Written.SIZE)) }
 {
     let size = record_size::<D, S, C>();
     for i in 0..places.len() {
@@ -49,8 +49,8 @@ pub fn write_table<D: Address, S: Address, C: Cost>(
     places: &[Record<D::Pattern, S::Pattern, C::Pattern>],
     buffer: &mut [u8],
 ) -> Result<usize, WriteFault>
-    ensures answer { result ≡ write_verdict (kind D.Written.code D.Written.size) (kind S.Written.code S.Written.size) (kind C.Written.code C.Written.size) (length places.now) (length buffer.old) }
-    ensures memory { buffer.new ≡ written result (encode (kind D.Written.code D.Written.size) (kind S.Written.code S.Written.size) (kind C.Written.code C.Written.size) (map (entry_of D.Written.number S.Written.number C.Written.number) places.now)) buffer.old }
+    ensures answer { result ≡ write_verdict (kind D.Written.CODE D.Written.SIZE) (kind S.Written.CODE S.Written.SIZE) (kind C.Written.CODE C.Written.SIZE) (length places.now) (length buffer.old) }
+    ensures memory { buffer.new ≡ written result (encode (kind D.Written.CODE D.Written.SIZE) (kind S.Written.CODE S.Written.SIZE) (kind C.Written.CODE C.Written.SIZE) (map (entry_of D.Written.number S.Written.number C.Written.number) places.now)) buffer.old }
 {
     let count = places.len();
     if count > 4095 {

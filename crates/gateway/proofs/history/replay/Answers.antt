@@ -65,12 +65,12 @@ returns g c =
           (record { found = c.classify-found.result; trailed = c.trail-trailed.result; nodes = c.nodes.result })
           (c.classify-found.ensures.answer (past K cap places calls) h)
           (c.trail-trailed.ensures.answer (past K cap places calls) h
-          ∙ ap (λ (n : ℕ). trail_verdict n g.D.Address.width g.S.Address.width (answer_of K (past K cap places calls).built d s)) few)
+          ∙ ap (λ (n : ℕ). trail_verdict n g.D.Address.WIDTH g.S.Address.WIDTH (answer_of K (past K cap places calls).built d s)) few)
           c.nodes.ensures;
       same = λ short. c.trail-trailed.ensures.same (omega arith) ∙ c.loop-call.invariant.2 short;
       marked = λ enough.
           let n =
-          accepted_noted h.derived.keys (past K cap places calls).built d s c.loop-call.trail c.trail-trailed.new.trail (length c.loop-call.trail) g.D.Address.width g.S.Address.width
+          accepted_noted h.derived.keys (past K cap places calls).built d s c.loop-call.trail c.trail-trailed.new.trail (length c.loop-call.trail) g.D.Address.WIDTH g.S.Address.WIDTH
           (answer_of K (past K cap places calls).built d s) (omega (arith, few)) (c.trail-trailed.ensures.memory (past K cap places calls) h) in
           record { keys = h.derived.keys; distinct = h.derived.distinct; whole = h.derived.whole; places = n.places };
     }

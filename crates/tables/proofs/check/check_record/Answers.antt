@@ -13,8 +13,8 @@ returns-in_err-check_prefixes g c =
     record {
       answer = λ pass tells.
           rest_refuses c.args.used _ _ _ _ p.1 p.2 c.in_err-check_prefixes.ensures
-          ∙ sym (verdict_at (kind g.D.Written.code g.D.Written.size) (kind g.S.Written.code g.S.Written.size) (kind g.C.Written.code g.C.Written.size) pass c.args.used (entry_of g.D.Written.number g.S.Written.number g.C.Written.number c.args.place.now) (ne_eqb _ 0 c.if-place-eq0.false) (sym (tells c.args.place.now.cost) ∙ some_since_ok (g.C.Written.reads c.args.place.now.cost) _ _ c.in_ok-read.ensures));
-      passed = subst (λ (r : Result (Unit {0}) RecordFault). IfOk r (λ _. entry_verdict (kind g.D.Written.code g.D.Written.size) (kind g.S.Written.code g.S.Written.size) (kind g.C.Written.code g.C.Written.size) (λ _. true) c.args.used (entry_of g.D.Written.number g.S.Written.number g.C.Written.number c.args.place.now) ≡ Ok tt)) (sym p.1) tt;
+          ∙ sym (verdict_at (kind g.D.Written.CODE g.D.Written.SIZE) (kind g.S.Written.CODE g.S.Written.SIZE) (kind g.C.Written.CODE g.C.Written.SIZE) pass c.args.used (entry_of g.D.Written.number g.S.Written.number g.C.Written.number c.args.place.now) (ne_eqb _ 0 c.if-place-eq0.false) (sym (tells c.args.place.now.cost) ∙ some_since_ok (g.C.Written.reads c.args.place.now.cost) _ _ c.in_ok-read.ensures));
+      passed = subst (λ (r : Result (Unit {0}) RecordFault). IfOk r (λ _. entry_verdict (kind g.D.Written.CODE g.D.Written.SIZE) (kind g.S.Written.CODE g.S.Written.SIZE) (kind g.C.Written.CODE g.C.Written.SIZE) (λ _. true) c.args.used (entry_of g.D.Written.number g.S.Written.number g.C.Written.number c.args.place.now) ≡ Ok tt)) (sym p.1) tt;
     }
 
 pub returns-then-used : goal.returns-then-used
@@ -22,7 +22,7 @@ returns-then-used g c =
     record {
       answer = λ pass tells.
           label_refuses c.args.used _ _ c.if-used.true c.in_ok-check_prefixes.ensures
-          ∙ sym (verdict_at (kind g.D.Written.code g.D.Written.size) (kind g.S.Written.code g.S.Written.size) (kind g.C.Written.code g.C.Written.size) pass c.args.used (entry_of g.D.Written.number g.S.Written.number g.C.Written.number c.args.place.now) (ne_eqb _ 0 c.if-place-eq0.false) (sym (tells c.args.place.now.cost) ∙ some_since_ok (g.C.Written.reads c.args.place.now.cost) _ _ c.in_ok-read.ensures));
+          ∙ sym (verdict_at (kind g.D.Written.CODE g.D.Written.SIZE) (kind g.S.Written.CODE g.S.Written.SIZE) (kind g.C.Written.CODE g.C.Written.SIZE) pass c.args.used (entry_of g.D.Written.number g.S.Written.number g.C.Written.number c.args.place.now) (ne_eqb _ 0 c.if-place-eq0.false) (sym (tells c.args.place.now.cost) ∙ some_since_ok (g.C.Written.reads c.args.place.now.cost) _ _ c.in_ok-read.ensures));
       passed = tt;
     }
 
@@ -30,6 +30,6 @@ pub returns : goal.returns
 returns g c =
     let n = nothing_refuses c.args.used _ _ c.if-used.false c.in_ok-check_prefixes.ensures in
     record {
-      answer = λ pass tells. n ∙ sym (verdict_at (kind g.D.Written.code g.D.Written.size) (kind g.S.Written.code g.S.Written.size) (kind g.C.Written.code g.C.Written.size) pass c.args.used (entry_of g.D.Written.number g.S.Written.number g.C.Written.number c.args.place.now) (ne_eqb _ 0 c.if-place-eq0.false) (sym (tells c.args.place.now.cost) ∙ some_since_ok (g.C.Written.reads c.args.place.now.cost) _ _ c.in_ok-read.ensures));
-      passed = verdict_at (kind g.D.Written.code g.D.Written.size) (kind g.S.Written.code g.S.Written.size) (kind g.C.Written.code g.C.Written.size) (λ _. true) c.args.used (entry_of g.D.Written.number g.S.Written.number g.C.Written.number c.args.place.now) (ne_eqb _ 0 c.if-place-eq0.false) refl ∙ sym n;
+      answer = λ pass tells. n ∙ sym (verdict_at (kind g.D.Written.CODE g.D.Written.SIZE) (kind g.S.Written.CODE g.S.Written.SIZE) (kind g.C.Written.CODE g.C.Written.SIZE) pass c.args.used (entry_of g.D.Written.number g.S.Written.number g.C.Written.number c.args.place.now) (ne_eqb _ 0 c.if-place-eq0.false) (sym (tells c.args.place.now.cost) ∙ some_since_ok (g.C.Written.reads c.args.place.now.cost) _ _ c.in_ok-read.ensures));
+      passed = verdict_at (kind g.D.Written.CODE g.D.Written.SIZE) (kind g.S.Written.CODE g.S.Written.SIZE) (kind g.C.Written.CODE g.C.Written.SIZE) (λ _. true) c.args.used (entry_of g.D.Written.number g.S.Written.number g.C.Written.number c.args.place.now) (ne_eqb _ 0 c.if-place-eq0.false) refl ∙ sym n;
     }

@@ -7,11 +7,11 @@ use Rattle.tables.proofs.check.check_table.Goals as goal
 pub returns : goal.returns
 returns g c =
     let h = c.in_ok-count.ensures in
-    let k = head_ok (kind g.D.Written.code g.D.Written.size) (kind g.S.Written.code g.S.Written.size) (kind g.C.Written.code g.C.Written.size) c.args.capacity c.args.bytes.now c.in_ok-count.count h in
+    let k = head_ok (kind g.D.Written.CODE g.D.Written.SIZE) (kind g.S.Written.CODE g.S.Written.SIZE) (kind g.C.Written.CODE g.C.Written.SIZE) c.args.capacity c.args.bytes.now c.in_ok-count.count h in
     record {
-      answer = λ pass tells. c.check_records.ensures.answer pass tells ∙ sym (behind_ok (kind g.D.Written.code g.D.Written.size) (kind g.S.Written.code g.S.Written.size) (kind g.C.Written.code g.C.Written.size) pass c.args.capacity c.args.bytes.now c.in_ok-count.count h);
+      answer = λ pass tells. c.check_records.ensures.answer pass tells ∙ sym (behind_ok (kind g.D.Written.CODE g.D.Written.SIZE) (kind g.S.Written.CODE g.S.Written.SIZE) (kind g.C.Written.CODE g.C.Written.SIZE) pass c.args.capacity c.args.bytes.now c.in_ok-count.count h);
       accepted =
           MatchResult-weaker c.check_records.result c.check_records.ensures.passed
-          (λ n e. (e.0 ∙ k.3, k.1 ∙ ap (table_size (kind g.D.Written.code g.D.Written.size) (kind g.S.Written.code g.S.Written.size) (kind g.C.Written.code g.C.Written.size)) (sym e.0), omega (arith, k.2, e.0), behind_ok (kind g.D.Written.code g.D.Written.size) (kind g.S.Written.code g.S.Written.size) (kind g.C.Written.code g.C.Written.size) (λ _. true) c.args.capacity c.args.bytes.now c.in_ok-count.count h ∙ e.1 ∙ ap Ok (sym e.0)))
+          (λ n e. (e.0 ∙ k.3, k.1 ∙ ap (table_size (kind g.D.Written.CODE g.D.Written.SIZE) (kind g.S.Written.CODE g.S.Written.SIZE) (kind g.C.Written.CODE g.C.Written.SIZE)) (sym e.0), omega (arith, k.2, e.0), behind_ok (kind g.D.Written.CODE g.D.Written.SIZE) (kind g.S.Written.CODE g.S.Written.SIZE) (kind g.C.Written.CODE g.C.Written.SIZE) (λ _. true) c.args.capacity c.args.bytes.now c.in_ok-count.count h ∙ e.1 ∙ ap Ok (sym e.0)))
           (λ y u. tt);
     }

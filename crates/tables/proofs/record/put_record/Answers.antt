@@ -7,7 +7,7 @@ pub returns : goal.returns
 returns g c =
     let so = c.args.at + 3 + c.bytes_of.result in
     let co = so + 1 + c.bytes_of-2.result in
-    put_is (kind g.D.Written.code g.D.Written.size) (kind g.S.Written.code g.S.Written.size) (kind g.C.Written.code g.C.Written.size)
+    put_is (kind g.D.Written.CODE g.D.Written.SIZE) (kind g.S.Written.CODE g.S.Written.SIZE) (kind g.C.Written.CODE g.C.Written.SIZE)
     (entry_of g.D.Written.number g.S.Written.number g.C.Written.number c.args.place.now)
     c.args.buffer.now c.put_number.new.buffer c.put_number-2.new.buffer c.put_pattern.new.buffer c.put_number-3.new.buffer c.put_pattern-2.new.buffer c.put_pattern-3.new.buffer c.put_number-4.new.buffer
     c.args.at so co (co + c.bytes_of-3.result) c.pack_directive.result

@@ -15,10 +15,10 @@ invariant_of-self g c =
     record {
       fits = l;
       few =
-          count_few (entry_of g.D.Written.number g.S.Written.number g.C.Written.number) (kind g.D.Written.code g.D.Written.size) (kind g.S.Written.code g.S.Written.size) (kind g.C.Written.code g.C.Written.size) (λ n. is_some (g.C.Written.value n)) (length c.args.self.now.places.now) c.args.table.now c.in-Ok.count c.load_table.new.places (sym v) l m.1;
+          count_few (entry_of g.D.Written.number g.S.Written.number g.C.Written.number) (kind g.D.Written.CODE g.D.Written.SIZE) (kind g.S.Written.CODE g.S.Written.SIZE) (kind g.C.Written.CODE g.C.Written.SIZE) (λ n. is_some (g.C.Written.value n)) (length c.args.self.now.places.now) c.args.table.now c.in-Ok.count c.load_table.new.places (sym v) l m.1;
       lawful =
           ap apart (labels_entries g.D.Written.number g.S.Written.number g.C.Written.number (take c.in-Ok.count c.load_table.new.places))
-          ∙ labels_loaded (entry_of g.D.Written.number g.S.Written.number g.C.Written.number) (kind g.D.Written.code g.D.Written.size) (kind g.S.Written.code g.S.Written.size) (kind g.C.Written.code g.C.Written.size) (λ n. is_some (g.C.Written.value n)) (length c.args.self.now.places.now) c.args.table.now c.in-Ok.count c.load_table.new.places (sym v) l m.1;
+          ∙ labels_loaded (entry_of g.D.Written.number g.S.Written.number g.C.Written.number) (kind g.D.Written.CODE g.D.Written.SIZE) (kind g.S.Written.CODE g.S.Written.SIZE) (kind g.C.Written.CODE g.C.Written.SIZE) (λ n. is_some (g.C.Written.value n)) (length c.args.self.now.places.now) c.args.table.now c.in-Ok.count c.load_table.new.places (sym v) l m.1;
     }
 
 pub returns-in-Ok : goal.returns-in-Ok
@@ -26,16 +26,16 @@ returns-in-Ok g c =
     let m = c.in-Ok.ensures.memory in
     let v = c.in-Ok.ensures.answer (λ n. is_some (g.C.Written.value n)) (λ p. ap is_some (g.met.C.Written.valued p)) in
     record {
-      answer = v ∙ capacity_same (kind g.D.Written.code g.D.Written.size) (kind g.S.Written.code g.S.Written.size) (kind g.C.Written.code g.C.Written.size) (λ n. is_some (g.C.Written.value n)) (length c.args.self.now.places.now) c.args.table.now;
+      answer = v ∙ capacity_same (kind g.D.Written.CODE g.D.Written.SIZE) (kind g.S.Written.CODE g.S.Written.SIZE) (kind g.C.Written.CODE g.C.Written.SIZE) (λ n. is_some (g.C.Written.value n)) (length c.args.self.now.places.now) c.args.table.now;
       memory = m;
       count = refl;
       meaning =
-          rules_entries g.D.Address.spells g.S.Address.spells g.C.Written.reads g.D.Written.number g.S.Written.number g.C.Written.number g.D.Written.size g.S.Written.size g.C.Written.value
+          rules_entries g.D.Address.spells g.S.Address.spells g.C.Written.reads g.D.Written.number g.S.Written.number g.C.Written.number g.D.Written.SIZE g.S.Written.SIZE g.C.Written.value
           (λ p. g.met.D.Address.first p ∙ ap (λ (w : ℕ). bits w (g.D.Written.number p)) g.met.D.Address.span)
           (λ p. g.met.S.Address.first p ∙ ap (λ (w : ℕ). bits w (g.S.Written.number p)) g.met.S.Address.span)
           g.met.C.Written.valued
           (take c.in-Ok.count c.load_table.new.places)
-          ∙ ap (rules (bits g.D.Written.size) (bits g.S.Written.size) g.C.Written.value) m.1;
+          ∙ ap (rules (bits g.D.Written.SIZE) (bits g.S.Written.SIZE) g.C.Written.value) m.1;
     }
 
 pub returns-in-Err : goal.returns-in-Err
@@ -43,7 +43,7 @@ returns-in-Err g c =
     let m = c.in-Err.ensures.memory in
     let v = c.in-Err.ensures.answer (λ n. is_some (g.C.Written.value n)) (λ p. ap is_some (g.met.C.Written.valued p)) in
     record {
-      answer = v ∙ capacity_same (kind g.D.Written.code g.D.Written.size) (kind g.S.Written.code g.S.Written.size) (kind g.C.Written.code g.C.Written.size) (λ n. is_some (g.C.Written.value n)) (length c.args.self.now.places.now) c.args.table.now;
+      answer = v ∙ capacity_same (kind g.D.Written.CODE g.D.Written.SIZE) (kind g.S.Written.CODE g.S.Written.SIZE) (kind g.C.Written.CODE g.C.Written.SIZE) (λ n. is_some (g.C.Written.value n)) (length c.args.self.now.places.now) c.args.table.now;
       memory = m;
       count = refl;
       meaning = ap (λ (rs : List (Record g.row.D-Pattern.Denot g.row.S-Pattern.Denot g.row.C-Pattern.Denot)). rules g.D.Address.spells g.S.Address.spells g.C.Written.reads (take c.args.self.now.used rs)) m;
