@@ -1,6 +1,6 @@
 -- Labels of a list of places: which occur, whether they are apart, and taking one out.
 use Rattle.std.specs.Prelude.{◌≡◌, ℕ, ◌<◌, Bool, true, false, cond, not, ◌&&◌, List, [], ◌∷◌, map, length, take, ◌==◌, slice_index_or}
-use Rattle.filters.specs.declared.filter.Record.{Record}
+use Rattle.filters.specs.Meaning.{Record}
 use Rattle.tables.specs.Verdict.{has}
 
 -- the labels of places, in their order

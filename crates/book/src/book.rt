@@ -2,7 +2,7 @@
 ghost use Rattle.std.specs.Prelude.{◌≡◌, ℕ, ◌+◌, ◌-◌, ◌<◌, ◌≤◌, true, false, [], ◌∷◌, ◌++◌, map, length, take, drop, Some, None, MatchOption, slice_set};
 ghost use Rattle.std.specs.Option.{option_map, option_to_list};
 ghost use Rattle.filters.specs.declared.filter.Filter.{Filter};
-ghost use Rattle.filters.specs.declared.filter.Record.{Record};
+ghost use Rattle.filters.specs.Meaning.{Record};
 ghost use Rattle.filters.specs.Meaning.{record_of, rule_of, held, rules};
 ghost use Rattle.filters.specs.Refusals.{filter_verdict};
 ghost use Rattle.filters.specs.Rules.{Rule};
@@ -31,7 +31,7 @@ const MOST: usize = 4095;
 // A book of filters with destinations of kind D, sources of kind S and costs of kind C.
 #[derive(Drop)]
 pub struct Book<'m, D: Address, S: Address, C: Cost> {
-    places: &'m mut [Record<D::Pattern, S::Pattern, C::Pattern>],
+    places: &'m mut [Record<D, S, C>],
     used: usize,
     ghost fits: { used ≤ length places.now },
     ghost few: { used ≤ 4095 },
@@ -40,7 +40,7 @@ pub struct Book<'m, D: Address, S: Address, C: Cost> {
 
 impl<'m, D: Address, S: Address, C: Cost> Book<'m, D, S, C> {
     // An empty book; the memory stays as found.
-    pub fn new(places: &'m mut [Record<D::Pattern, S::Pattern, C::Pattern>]) -> Self
+    pub fn new(places: &'m mut [Record<D, S, C>]) -> Self
         ensures { (result.used ≡ 0) × (result.places.now ≡ places.old) }
     {
         Book { places, used: 0 }
@@ -76,7 +76,7 @@ impl<'m, D: Address, S: Address, C: Cost> Book<'m, D, S, C> {
     }
 
     // The places in use, in the book's order.
-    pub fn records(&self) -> &[Record<D::Pattern, S::Pattern, C::Pattern>]
+    pub fn records(&self) -> &[Record<D, S, C>]
         ensures { result.now ≡ take self.now.used self.now.places.now }
     {
         &self.places[0..self.used]

@@ -4,8 +4,11 @@ use Rattle.std.specs.declared.cmp.Ordering.{Ordering}
 use Rattle.kinds.specs.Strings.{Str}
 use Rattle.filters.specs.declared.filter.Prefix.{Prefix}
 use Rattle.filters.specs.declared.filter.Filter.{Filter}
-use Rattle.filters.specs.declared.filter.Record.{Record}
 use Rattle.filters.specs.Rules.{Rule, by_cost, count}
+
+-- a place keeps a filter by the patterns of its addresses and its cost
+abbrev pub Record : Type 0 → Type 0 → Type 0 → Type 0
+Record D S C = Filter D S C
 
 -- a prefix is the string of the first bits of its address, as many as its length
 abbrev pub prefix_of : {A : Type 0} → (A → Str) → Prefix A → Str

@@ -3,7 +3,7 @@ use Rattle.std.proofs.Common.{◌≡◌, ℕ, ◌+◌, ◌-◌, ◌≤◌, Bool,
 use Rattle.std.proofs.lemmas.List.{length-append, length-drop, length-map, length_push, length-set, length-take-le}
 use Rattle.kinds.specs.Strings.{bits}
 use Rattle.filters.specs.declared.filter.Filter.{Filter}
-use Rattle.filters.specs.declared.filter.Record.{Record}
+use Rattle.filters.specs.Meaning.{Record}
 use Rattle.filters.specs.Meaning.{record_of}
 use Rattle.filters.specs.Orders.{Each, Apart}
 use Rattle.filters.specs.Rules.{Rule}

@@ -6,7 +6,7 @@ use Rattle.kinds.specs.declared.plain.Plain as Plain
 use Rattle.kinds.specs.declared.written.Written as Written
 use Rattle.filters.specs.declared.fault.FilterFault.{FilterFault}
 use Rattle.filters.specs.declared.filter.Filter.{Filter}
-use Rattle.filters.specs.declared.filter.Record.{Record}
+use Rattle.filters.specs.Meaning.{Record}
 use Rattle.filters.specs.Meaning.{rule_of, rules}
 use Rattle.filters.specs.Refusals.{filter_verdict}
 use Rattle.filters.specs.Rules.{Rule, better}

@@ -78,7 +78,7 @@ fn make_call<D: Address, S: Address, C: Cost>(
 
 // Makes a book and a grid in memory of any content, makes the calls, and looks two addresses up.
 pub fn replay<D: Address, S: Address, C: Cost>(
-    places: &mut [Record<D::Pattern, S::Pattern, C::Pattern>],
+    places: &mut [Record<D, S, C>],
     nodes: &mut [Node],
     trail: &mut [u32],
     calls: &[Call<D, S, C>],
@@ -108,11 +108,11 @@ pub fn replay<D: Address, S: Address, C: Cost>(
 // for the filters that its history built last, and histories that built the same filters, in any order, end in the same choice
 // and visits.
 pub fn replay_two<D: Address, S: Address, C: Cost>(
-    places: &mut [Record<D::Pattern, S::Pattern, C::Pattern>],
+    places: &mut [Record<D, S, C>],
     nodes: &mut [Node],
     trail: &mut [u32],
     calls: &[Call<D, S, C>],
-    other_places: &mut [Record<D::Pattern, S::Pattern, C::Pattern>],
+    other_places: &mut [Record<D, S, C>],
     other_nodes: &mut [Node],
     other_trail: &mut [u32],
     other_calls: &[Call<D, S, C>],

@@ -53,7 +53,7 @@ fn places_needed<D: Address, S: Address>(count: usize) -> usize
 fn fill<D: Address, S: Address, C: Cost>(
     nodes: &mut [Node],
     used: &mut u32,
-    records: &[Record<D::Pattern, S::Pattern, C::Pattern>],
+    records: &[Record<D, S, C>],
 ) -> u32
     requires safe { Safe used.old nodes.old }
     requires few { length records.now ≤ 4095 }
@@ -76,7 +76,7 @@ impl<'m, D: Address, S: Address, C: Cost> Grid<'m, D, S, C> {
     // so many filters may need, and then nothing changes; else the number of nodes is answered.
     pub(crate) fn build_from(
         &mut self,
-        records: &[Record<D::Pattern, S::Pattern, C::Pattern>],
+        records: &[Record<D, S, C>],
     ) -> Result<u32, BuildFault>
         requires { length records.now ≤ 4095 }
         ensures answer { result ≡ (if too_few (length self.old.nodes.now) (length records.now) D.Address.WIDTH S.Address.WIDTH then Err Places else Ok (nodes_of (rules D.Address.spells S.Address.spells C.Written.reads records.now))) }

@@ -19,8 +19,8 @@ use kinds::cost::Cost;
 fn insert_record<D: Address, S: Address, C: Cost>(
     nodes: &mut [Node],
     used: &mut u32,
-    records: &[Record<D::Pattern, S::Pattern, C::Pattern>],
-    place: &Record<D::Pattern, S::Pattern, C::Pattern>,
+    records: &[Record<D, S, C>],
+    place: &Record<D, S, C>,
 )
     requires safe { Safe used.old nodes.old }
     requires few { length records.now ≤ 4095 }
@@ -47,7 +47,7 @@ fn insert_record<D: Address, S: Address, C: Cost>(
 pub(crate) fn insert_all<D: Address, S: Address, C: Cost>(
     nodes: &mut [Node],
     used: &mut u32,
-    records: &[Record<D::Pattern, S::Pattern, C::Pattern>],
+    records: &[Record<D, S, C>],
 )
     requires start { used.old ≡ 0 }
     requires bare { nodes.old ≡ replicate (length nodes.old) Empty }

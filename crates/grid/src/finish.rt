@@ -98,7 +98,7 @@ fn finish<D: Address, S: Address>(nodes: &mut [Node], to: &Span<D>, from: &Span<
 // Finishes what a place holds, if it holds a filter whose destination has so many bits.
 fn finish_record<D: Address, S: Address, C: Cost>(
     nodes: &mut [Node],
-    place: &Record<D::Pattern, S::Pattern, C::Pattern>,
+    place: &Record<D, S, C>,
     size: u32,
 )
     ensures { nodes.new ≡ finish_length size nodes.old (held D.Address.spells S.Address.spells C.Written.reads place.now) }
@@ -113,7 +113,7 @@ fn finish_record<D: Address, S: Address, C: Cost>(
 // Finishes the filters whose destination has so many bits.
 fn finish_length<D: Address, S: Address, C: Cost>(
     nodes: &mut [Node],
-    records: &[Record<D::Pattern, S::Pattern, C::Pattern>],
+    records: &[Record<D, S, C>],
     size: u32,
 )
     ensures { nodes.new ≡ finish_length size nodes.old (rules D.Address.spells S.Address.spells C.Written.reads records.now) }
@@ -126,7 +126,7 @@ fn finish_length<D: Address, S: Address, C: Cost>(
 // Finishes all filters, the shorter destinations first.
 pub(crate) fn finish_all<D: Address, S: Address, C: Cost>(
     nodes: &mut [Node],
-    records: &[Record<D::Pattern, S::Pattern, C::Pattern>],
+    records: &[Record<D, S, C>],
 )
     ensures { nodes.new ≡ finish_below (D.Address.WIDTH + 1) nodes.old (rules D.Address.spells S.Address.spells C.Written.reads records.now) }
 {

@@ -3,7 +3,7 @@ use Rattle.std.proofs.Common.{◌≡◌, ℕ, ◌+◌, ◌/◌, ◌≤◌, List,
 use lib.Seq.{paste}
 use Rattle.std.proofs.lemmas.List.Edits.{paste-paste}
 use Rattle.std.proofs.lemmas.List.{drop-drop, append_assoc, append-nil, length-append}
-use Rattle.filters.specs.declared.filter.Record.{Record}
+use Rattle.filters.specs.Meaning.{Record}
 use Rattle.tables.specs.Bytes.{word, spelt}
 use Rattle.tables.specs.Directives.{directive_of, directive_number}
 use Rattle.tables.specs.Format.{Kind, Entry, entry_of, record_size, decode_record, encode_record}

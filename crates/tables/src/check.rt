@@ -13,7 +13,7 @@ use crate::record::{record_at, record_size};
 use filters::check::check_body;
 use filters::directive::Directive;
 use filters::fault::FilterFault;
-use filters::filter::{Prefix, Record};
+use filters::filter::{Filter, Prefix, Record};
 use kinds::address::Address;
 use kinds::cost::Cost;
 use kinds::written::Written;
@@ -39,7 +39,7 @@ fn check_prefixes<D: Address, S: Address>(
 
 // The first refusal of a record; `used` says whether its label is in use already.
 fn check_record<D: Address, S: Address, C: Cost>(
-    place: &Record<D::Pattern, S::Pattern, C::Pattern>,
+    place: &Record<D, S, C>,
     used: bool,
 ) -> Result<(), RecordFault>
     ensures answer { (lawful : ℕ → Bool) → Tells C.Written.number C.Written.reads lawful → result ≡ entry_verdict (kind D.Written.CODE D.Written.SIZE) (kind S.Written.CODE S.Written.SIZE) (kind C.Written.CODE C.Written.SIZE) lawful used (entry_of D.Written.number S.Written.number C.Written.number place.now) }

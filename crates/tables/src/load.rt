@@ -23,7 +23,7 @@ fn put_place<R: Copy>(places: &mut [R], at: usize, place: R)
 fn read_records<D: Address, S: Address, C: Cost>(
     bytes: &[u8],
     count: usize,
-    places: &mut [Record<D::Pattern, S::Pattern, C::Pattern>],
+    places: &mut [Record<D, S, C>],
 )
     requires { (table_size (kind D.Written.CODE D.Written.SIZE) (kind S.Written.CODE S.Written.SIZE) (kind C.Written.CODE C.Written.SIZE) count ≤ length bytes.now) × ((count ≤ length places.old) × (count ≤ 4095)) }
     ensures read { map (entry_of D.Written.number S.Written.number C.Written.number) (take count places.new) ≡ decode_records (kind D.Written.CODE D.Written.SIZE) (kind S.Written.CODE S.Written.SIZE) (kind C.Written.CODE C.Written.SIZE) count (drop 4 bytes.now) }
@@ -39,7 +39,7 @@ fn read_records<D: Address, S: Address, C: Cost>(
 // answer is how many they are; refused, all places stay.
 pub fn load_table<D: Address, S: Address, C: Cost>(
     bytes: &[u8],
-    places: &mut [Record<D::Pattern, S::Pattern, C::Pattern>],
+    places: &mut [Record<D, S, C>],
 ) -> Result<usize, LoadFault>
     ensures answer { (lawful : ℕ → Bool) → Tells C.Written.number C.Written.reads lawful → result ≡ table_verdict (kind D.Written.CODE D.Written.SIZE) (kind S.Written.CODE S.Written.SIZE) (kind C.Written.CODE C.Written.SIZE) lawful (length places.old) bytes.now }
     ensures accepted { IfOk result (λ n. table_verdict (kind D.Written.CODE D.Written.SIZE) (kind S.Written.CODE S.Written.SIZE) (kind C.Written.CODE C.Written.SIZE) (λ _. true) (length places.old) bytes.now ≡ Ok n) }

@@ -5,7 +5,7 @@ ghost use Rattle.tables.specs.Format.{kind, entry_of, record_size, decode_record
 
 use crate::field::{pack_directive, unpack_directive};
 use crate::number::{number_at, pattern_at, put_number, put_pattern};
-use filters::filter::{Prefix, Record};
+use filters::filter::{Filter, Prefix, Record};
 use kinds::address::Address;
 use kinds::cost::Cost;
 use kinds::written::Written;
@@ -30,14 +30,14 @@ pub(crate) fn record_size<D: Address, S: Address, C: Cost>() -> usize
 pub(crate) fn record_at<D: Address, S: Address, C: Cost>(
     bytes: &[u8],
     at: usize,
-) -> Record<D::Pattern, S::Pattern, C::Pattern>
+) -> Record<D, S, C>
     requires { at + record_size (kind D.Written.CODE D.Written.SIZE) (kind S.Written.CODE S.Written.SIZE) (kind C.Written.CODE C.Written.SIZE) ≤ length bytes.now }
     ensures { entry_of D.Written.number S.Written.number C.Written.number result ≡ decode_record (kind D.Written.CODE D.Written.SIZE) (kind S.Written.CODE S.Written.SIZE) (kind C.Written.CODE C.Written.SIZE) (drop at bytes.now) }
 {
     let source = at + 3 + bytes_of::<D>();
     let cost = source + 1 + bytes_of::<S>();
     let directive = cost + bytes_of::<C>();
-    Record {
+    Filter {
         label: number_at(bytes, at, 2) as u16,
         destination: Prefix {
             length: number_at(bytes, at + 2, 1) as u8,
@@ -56,7 +56,7 @@ pub(crate) fn record_at<D: Address, S: Address, C: Cost>(
 pub(crate) fn put_record<D: Address, S: Address, C: Cost>(
     buffer: &mut [u8],
     at: usize,
-    place: &Record<D::Pattern, S::Pattern, C::Pattern>,
+    place: &Record<D, S, C>,
 )
     requires { at + record_size (kind D.Written.CODE D.Written.SIZE) (kind S.Written.CODE S.Written.SIZE) (kind C.Written.CODE C.Written.SIZE) ≤ length buffer.old }
     ensures { buffer.new ≡ paste buffer.old at (encode_record (kind D.Written.CODE D.Written.SIZE) (kind S.Written.CODE S.Written.SIZE) (kind C.Written.CODE C.Written.SIZE) (entry_of D.Written.number S.Written.number C.Written.number place.now)) (record_size (kind D.Written.CODE D.Written.SIZE) (kind S.Written.CODE S.Written.SIZE) (kind C.Written.CODE C.Written.SIZE)) }

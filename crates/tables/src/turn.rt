@@ -53,7 +53,7 @@ fn front<R: Copy>(places: &[R], count: usize) -> &[R]
 // Loads a table into places and writes it again: the buffer then begins with the same bytes.
 pub fn load_and_write<D: Address, S: Address, C: Cost>(
     bytes: &[u8],
-    places: &mut [Record<D::Pattern, S::Pattern, C::Pattern>],
+    places: &mut [Record<D, S, C>],
     buffer: &mut [u8],
 ) -> Result<usize, TurnFault>
     ensures answer { (lawful : ℕ → Bool) → Tells C.Written.number C.Written.reads lawful → result ≡ load_turn (table_verdict (kind D.Written.CODE D.Written.SIZE) (kind S.Written.CODE S.Written.SIZE) (kind C.Written.CODE C.Written.SIZE) lawful (length places.old) bytes.now) (λ n. write_verdict (kind D.Written.CODE D.Written.SIZE) (kind S.Written.CODE S.Written.SIZE) (kind C.Written.CODE C.Written.SIZE) n (length buffer.old)) }
@@ -67,9 +67,9 @@ pub fn load_and_write<D: Address, S: Address, C: Cost>(
 
 // Writes the table of places and loads it into other ones: where the places held lawful filters, those are then the same.
 pub fn write_and_load<D: Address, S: Address, C: Cost>(
-    places: &[Record<D::Pattern, S::Pattern, C::Pattern>],
+    places: &[Record<D, S, C>],
     buffer: &mut [u8],
-    into: &mut [Record<D::Pattern, S::Pattern, C::Pattern>],
+    into: &mut [Record<D, S, C>],
 ) -> Result<usize, TurnFault>
     ensures answer { (lawful : ℕ → Bool) → Tells C.Written.number C.Written.reads lawful → result ≡ write_load (write_verdict (kind D.Written.CODE D.Written.SIZE) (kind S.Written.CODE S.Written.SIZE) (kind C.Written.CODE C.Written.SIZE) (length places.now) (length buffer.old)) (table_verdict (kind D.Written.CODE D.Written.SIZE) (kind S.Written.CODE S.Written.SIZE) (kind C.Written.CODE C.Written.SIZE) lawful (length into.old) (encode (kind D.Written.CODE D.Written.SIZE) (kind S.Written.CODE S.Written.SIZE) (kind C.Written.CODE C.Written.SIZE) (map (entry_of D.Written.number S.Written.number C.Written.number) places.now))) }
     ensures bytes { buffer.new ≡ written (write_verdict (kind D.Written.CODE D.Written.SIZE) (kind S.Written.CODE S.Written.SIZE) (kind C.Written.CODE C.Written.SIZE) (length places.now) (length buffer.old)) (encode (kind D.Written.CODE D.Written.SIZE) (kind S.Written.CODE S.Written.SIZE) (kind C.Written.CODE C.Written.SIZE) (map (entry_of D.Written.number S.Written.number C.Written.number) places.now)) buffer.old }

@@ -30,7 +30,7 @@ fn put_head<D: Address, S: Address, C: Cost>(buffer: &mut [u8], count: u16)
 
 // Writes the records of places behind the head.
 fn put_records<D: Address, S: Address, C: Cost>(
-    places: &[Record<D::Pattern, S::Pattern, C::Pattern>],
+    places: &[Record<D, S, C>],
     buffer: &mut [u8],
 )
     requires { (table_size (kind D.Written.CODE D.Written.SIZE) (kind S.Written.CODE S.Written.SIZE) (kind C.Written.CODE C.Written.SIZE) (length places.now) ≤ length buffer.old) × (length places.now ≤ 4095) }
@@ -46,7 +46,7 @@ fn put_records<D: Address, S: Address, C: Cost>(
 // Writes the table of places from the buffer's start, and answers how many bytes it has; later bytes stay. A buffer without
 // room is refused, and then nothing is written; so are more places than a head can count, for which no buffer has room.
 pub fn write_table<D: Address, S: Address, C: Cost>(
-    places: &[Record<D::Pattern, S::Pattern, C::Pattern>],
+    places: &[Record<D, S, C>],
     buffer: &mut [u8],
 ) -> Result<usize, WriteFault>
     ensures answer { result ≡ write_verdict (kind D.Written.CODE D.Written.SIZE) (kind S.Written.CODE S.Written.SIZE) (kind C.Written.CODE C.Written.SIZE) (length places.now) (length buffer.old) }

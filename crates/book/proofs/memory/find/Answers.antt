@@ -1,6 +1,6 @@
 use Rattle.std.proofs.Common.{sym, ap, ◌∙◌, add-one, arith}
 use Rattle.std.proofs.lemmas.List.{take_all}
-use Rattle.filters.specs.declared.filter.Record.{Record}
+use Rattle.filters.specs.Meaning.{Record}
 use Rattle.tables.specs.Verdict.{has}
 use Rattle.book.specs.Labels.{labels}
 use Rattle.book.proofs.Found.{length_labels, get_d_labels, none_more}

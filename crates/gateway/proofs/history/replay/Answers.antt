@@ -1,7 +1,7 @@
 use Rattle.std.proofs.Common.{◌≡◌, ℕ, ◌+◌, List, ◌∷◌, length, drop, sym, refl, ap, ◌∙◌, subst, arith}
 use Rattle.std.proofs.lemmas.List.{at_drop_more, at_drop_all, length-replicate}
 use Rattle.book.specs.Books.{capacity_of}
-use Rattle.filters.specs.declared.filter.Record.{Record}
+use Rattle.filters.specs.Meaning.{Record}
 use Rattle.grid.specs.declared.node.Node.TheVariants.{Empty}
 use Rattle.grid.specs.Refusals.{trail_verdict}
 use Rattle.gateway.specs.declared.history.Call.{Call}

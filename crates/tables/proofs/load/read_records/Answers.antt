@@ -1,5 +1,5 @@
 use Rattle.std.proofs.Common.{◌≡◌, ℕ, ◌+◌, List, map, take, drop, sym, subst, arith}
-use Rattle.filters.specs.declared.filter.Record.{Record}
+use Rattle.filters.specs.Meaning.{Record}
 use Rattle.tables.specs.Format.{kind, entry_of, decode_records}
 use Rattle.tables.proofs.Places.{load_more}
 use Rattle.tables.proofs.Walk.{record_fits}

@@ -1,6 +1,6 @@
 use Rattle.std.proofs.Common.{◌≡◌, ℕ, ◌*◌, List, map, length, take, ap, ◌∙◌, arith}
 use lib.Seq.{paste}
-use Rattle.filters.specs.declared.filter.Record.{Record}
+use Rattle.filters.specs.Meaning.{Record}
 use Rattle.std.proofs.lemmas.List.{take_all}
 use Rattle.tables.specs.Format.{kind, entry_of, record_size, encode_records}
 use Rattle.tables.proofs.Places.{put_more}

@@ -1,5 +1,5 @@
 use Rattle.std.proofs.Common.{◌≡◌, ℕ, eqb, length, take, set, sym, refl, ap, ◌∙◌, arith, length-set}
-use Rattle.filters.specs.declared.filter.Record.{Record}
+use Rattle.filters.specs.Meaning.{Record}
 use Rattle.filters.specs.Refusals.{body_verdict, filter_verdict}
 use Rattle.tables.specs.Verdict.{has}
 use Rattle.book.specs.Labels.{labels}

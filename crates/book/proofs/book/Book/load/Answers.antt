@@ -1,5 +1,5 @@
 use Rattle.std.proofs.Common.{ℕ, ◌≤◌, List, length, take, is_some, sym, refl, ap, ◌∙◌, arith}
-use Rattle.filters.specs.declared.filter.Record.{Record}
+use Rattle.filters.specs.Meaning.{Record}
 use Rattle.filters.specs.Meaning.{rules}
 use Rattle.kinds.specs.Strings.{bits}
 use Rattle.tables.specs.Format.{kind, entry_of}

@@ -1,6 +1,6 @@
 use Rattle.std.proofs.Common.{ℕ, List, map, length, ap, ◌∙◌}
 use Rattle.std.proofs.lemmas.List.{length-take-le}
-use Rattle.filters.specs.declared.filter.Record.{Record}
+use Rattle.filters.specs.Meaning.{Record}
 use Rattle.tables.specs.Format.{kind, entry_of, encode}
 use Rattle.tables.specs.Memory.{write_verdict, written}
 use Rattle.book.proofs.book.Book.write.Goals as goal
