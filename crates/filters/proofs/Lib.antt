@@ -1,3 +1,2 @@
 pub mod Bests
 pub mod Reading
-pub mod Strays

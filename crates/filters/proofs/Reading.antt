@@ -1,10 +1,17 @@
 -- Reading the rules of places one after another.
-use Rattle.std.proofs.Common.{◌≡◌, ℕ, suc, ◌+◌, ◌<◌, Bool, true, false, cond, List, [], ◌∷◌, ◌++◌, map, length, get_or, drop, Option, sym, refl, ap, ◌∙◌, add_assoc, zero-add, arith}
+use Rattle.std.proofs.Common.{◌≡◌, ℕ, suc, ◌+◌, ◌<◌, ◌≤◌, Bool, true, false, cond, List, [], ◌∷◌, ◌++◌, map, length, get_or, drop, Option, sym, refl, ap, ◌∙◌, add_assoc, zero-add, arith}
 use Rattle.std.proofs.lemmas.List.{append_assoc, map-append, at_drop_more}
+use Rattle.std.specs.Prelude.{if◌then◌else◌}
+use mir.Val.{bool_byte}
 use Rattle.kinds.specs.Strings.{Str}
 use Rattle.filters.specs.Meaning.{Record}
 use Rattle.filters.specs.Rules.{Rule, scan, pick, only, count}
 use Rattle.filters.specs.Meaning.{held, rules}
+
+-- a test as a number
+pub counted : (b : Bool) (n m : ℕ) → n ≡ bool_byte b → (if b then 1 else 0) ≡ m → (n ≡ m) × (n ≤ 1)
+counted true n m e f = (e ∙ f, omega arith)
+counted false n m e f = (e ∙ f, omega arith)
 
 pub scan_append : {C : Type 0} (lt : Rule C → Rule C → Bool) (acc : Option (Rule C)) (xs ys : List (Option (Rule C))) → scan lt acc (xs ++ ys) ≡ scan lt (scan lt acc xs) ys
 scan_append lt acc [] ys = refl

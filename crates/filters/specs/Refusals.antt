@@ -1,5 +1,6 @@
 -- When a filter is refused, and by which number.
-use Rattle.std.specs.Prelude.{ℕ, Bool, false, cond, ◌||◌, [], ◌∷◌, drop, Ok, Err, Result, ◌==◌, nat_lt}
+use Rattle.std.specs.Prelude.{ℕ, Bool, cond, ◌||◌, drop, Ok, Err, Result, ◌==◌, nat_lt}
+use Rattle.std.specs.List.{list_any}
 use Rattle.kinds.specs.Strings.{Str}
 use Rattle.filters.specs.declared.directive.Directive.{Directive}
 use Rattle.filters.specs.declared.fault.FilterFault.{FilterFault}
@@ -16,14 +17,9 @@ filter_number StrayBit = 3
 filter_number BadDirective = 4
 filter_number LabelInUse = 5
 
--- some bit of the string is 1
-abbrev pub any_one : Str → Bool
-any_one [] = false
-any_one (b ∷ t) = b || any_one t
-
 -- some bit behind the first n is 1
 abbrev pub stray : ℕ → Str → Bool
-stray n t = any_one (drop n t)
+stray n t = list_any (λ b. b) (drop n t)
 
 -- the label's check follows those of the body
 abbrev pub then_used : Bool → Result (Unit {0}) FilterFault → Result (Unit {0}) FilterFault

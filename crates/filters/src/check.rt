@@ -6,18 +6,14 @@ use crate::directive::Directive;
 use crate::fault::FilterFault;
 use crate::filter::{Filter, Prefix};
 use kinds::address::Address;
+use kinds::bits::Bits;
 use kinds::cost::Cost;
 
 // Whether a bit of the address is set at a place or behind it.
 fn has_bit_from<A: Address>(address: &A, first: u32) -> bool
     ensures { result ≡ stray first (A.Address.string address.now) }
 {
-    for i in first..A::WIDTH {
-        if address.bit(i) {
-            return true;
-        }
-    }
-    false
+    Bits::of(address).skip(first as usize).any(|bit| bit)
 }
 
 // Whether a bit is set behind the prefix's length.

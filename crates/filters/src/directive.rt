@@ -20,10 +20,9 @@ impl Directive {
     {
         match self {
             Directive::Block => true,
-            Directive::Line(line) => 1 <= line && line <= 63,
-            Directive::Reserve { line, rate } => 1 <= line
-                && line <= 63
-                && (1 <= rate && rate <= 0xff_ffff),
+            Directive::Line(line) => (1..=63).contains(&line),
+            Directive::Reserve { line, rate } => (1..=63).contains(&line)
+                && (1..=0xff_ffff).contains(&rate),
         }
     }
 }

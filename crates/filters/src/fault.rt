@@ -5,15 +5,15 @@ ghost use Rattle.filters.specs.Refusals.{filter_number};
 #[derive(Clone, Copy, PartialEq, Eq, Debug)]
 pub enum FilterFault {
     // the label is 0
-    ZeroLabel,
+    ZeroLabel = 1,
     // a prefix is longer than its kind is wide
-    LongPrefix,
+    LongPrefix = 2,
     // a bit is set behind a prefix's length
-    StrayBit,
+    StrayBit = 3,
     // the directive's numbers are out of range
-    BadDirective,
+    BadDirective = 4,
     // another filter has the label
-    LabelInUse,
+    LabelInUse = 5,
 }
 
 impl FilterFault {
@@ -21,12 +21,6 @@ impl FilterFault {
     pub fn number(self) -> u8
         ensures { result ≡ filter_number self }
     {
-        match self {
-            FilterFault::ZeroLabel => 1,
-            FilterFault::LongPrefix => 2,
-            FilterFault::StrayBit => 3,
-            FilterFault::BadDirective => 4,
-            FilterFault::LabelInUse => 5,
-        }
+        self as u8
     }
 }

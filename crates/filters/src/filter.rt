@@ -56,5 +56,8 @@ pub struct Filter<D, S, C> {
 }
 
 // A place for a filter: addresses and cost are kept as their patterns, plain whole numbers. It may hold anything.
-pub type Record<D, S, C> =
-    Filter<<D as Written>::Pattern, <S as Written>::Pattern, <C as Written>::Pattern>;
+pub type Record<D, S, C> = Filter<
+    <D as Written>::Pattern,
+    <S as Written>::Pattern,
+    <C as Written>::Pattern,
+>;

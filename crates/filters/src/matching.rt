@@ -8,7 +8,6 @@ use crate::filter::Filter;
 use kinds::address::Address;
 use kinds::cost::Cost;
 use kinds::prefix::is_prefix;
-use std::cmp::Ordering;
 
 // Whether the filter's prefixes are prefixes of the two addresses.
 pub fn is_match<D: Address, S: Address, C: Cost>(
@@ -32,9 +31,6 @@ pub fn is_better<D: Address, S: Address, C: Cost>(
 ) -> bool
     ensures { result ≡ better C.Cost.order (rule_of D.Address.string S.Address.string first.now) (rule_of D.Address.string S.Address.string second.now) }
 {
-    match first.cost.compare(&second.cost) {
-        Ordering::Less => true,
-        Ordering::Equal => first.label < second.label,
-        Ordering::Greater => false,
-    }
+    let costs = first.cost.compare(&second.cost);
+    costs.then(first.label.cmp(&second.label)).is_lt()
 }

@@ -1,5 +1,5 @@
 // Linear search: every filter is read, one after another. And standings: how many filters are better.
-ghost use Rattle.std.specs.Prelude.{◌≡◌, ℕ, ◌^◌, ◌<◌, ◌≤◌, map, length};
+ghost use Rattle.std.specs.Prelude.{◌≡◌, ℕ, ◌^◌, ◌<◌, ◌≤◌, map, length, if◌then◌else◌};
 ghost use Rattle.std.specs.Option.{option_map};
 ghost use Rattle.filters.specs.Rules.{linear, better, pick, only, matches, scan};
 ghost use Rattle.filters.specs.Orders.{Apart, BestMatch};
@@ -67,23 +67,11 @@ pub fn linear_search<D: Address, S: Address, C: Cost>(
     best
 }
 
-// 1 where a place holds a filter that is better than one of this cost and label, else 0.
-fn ahead<D: Address, S: Address, C: Cost>(
-    place: &Record<D, S, C>,
-    cost: &C,
-    label: u16,
-) -> usize
-    ensures counted { result ≡ standing_of C.Cost.order (held D.Address.spells S.Address.spells C.Written.reads place.now) cost.now label }
-    ensures one { result ≤ 1 }
+// Whether a place holds a filter that is better than one of this cost and label.
+fn is_ahead<D: Address, S: Address, C: Cost>(place: &Record<D, S, C>, cost: &C, label: u16) -> bool
+    ensures { (if result then 1 else 0) ≡ standing_of C.Cost.order (held D.Address.spells S.Address.spells C.Written.reads place.now) cost.now label }
 {
-    let Ok(other) = C::read(place.cost) else {
-        return 0;
-    };
-    match other.compare(cost) {
-        Ordering::Less => 1,
-        Ordering::Equal => { if place.label < label { 1 } else { 0 } }
-        Ordering::Greater => 0,
-    }
+    C::read(place.cost).is_ok_and(|other| other.compare(cost).then(place.label.cmp(&label)).is_lt())
 }
 
 // The standing of a filter of this cost and label: how many filters that the places hold are better.
@@ -96,7 +84,7 @@ pub fn standing<D: Address, S: Address, C: Cost>(
 {
     let mut better = 0;
     for place in places {
-        better += ahead::<D, S, C>(place, cost, label);
+        better += usize::from(is_ahead::<D, S, C>(place, cost, label));
     }
     better
 }

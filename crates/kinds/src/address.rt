@@ -1,9 +1,17 @@
 // An address kind: its values mean strings of bits, all of one width.
 ghost use Rattle.std.specs.Prelude.{◌≡◌, ℕ, ◌^◌, ◌<◌, true, false, length, is_some, Some, slice_index_or};
-ghost use Rattle.kinds.specs.Strings.{Str, bits};
+ghost use Rattle.kinds.specs.Strings.{Str, bits, weighs};
 
 use crate::plain::Plain;
 use crate::written::Written;
+
+// Whether 2 ^ weight is among the powers of two that add up to the number of a value.
+fn weighs<W: Written>(value: &W, weight: u32) -> bool
+    requires { weight < W.Written.SIZE }
+    ensures { result ≡ weighs (W.Written.number (W.Written.pattern value.now)) weight }
+{
+    value.write().has_bit(weight)
+}
 
 pub trait Address: Written {
     const WIDTH: u32;
@@ -24,7 +32,7 @@ pub trait Address: Written {
     final fn bit(&self, i: u32) -> bool
         ensures { result ≡ slice_index_or (string self.now) i false }
     {
-        i < Self::WIDTH && self.write().has_bit(Self::WIDTH - 1 - i)
+        i < Self::WIDTH && weighs(self, Self::WIDTH - 1 - i)
     }
 
     ghost span: { WIDTH ≡ Self.Written.SIZE };

@@ -10,7 +10,7 @@ use crate::plain::Plain;
 #[derive(Clone, Copy, PartialEq, Eq, Debug)]
 pub enum PatternFault {
     // no value of the kind is written so
-    Unlawful,
+    Unlawful = 18,
 }
 
 impl PatternFault {
@@ -18,9 +18,7 @@ impl PatternFault {
     pub fn number(self) -> u8
         ensures { result ≡ pattern_number self }
     {
-        match self {
-            PatternFault::Unlawful => 18,
-        }
+        self as u8
     }
 }
 

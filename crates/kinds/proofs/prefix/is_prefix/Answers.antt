@@ -1,4 +1,4 @@
-use Rattle.std.proofs.Common.{◌≡◌, ◌≤◌, length, take, ◌∙◌, rules, arith}
+use Rattle.std.proofs.Common.{take, ◌∙◌, rules, arith}
 use borrow.Author.Tests.{tests}
 use mathlib.Core.Bool.{beq}
 use Rattle.std.proofs.lemmas.Iterator.{YieldsList-from_zip}

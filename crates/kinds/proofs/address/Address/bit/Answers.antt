@@ -1,6 +1,6 @@
-use Rattle.std.proofs.Common.{◌≡◌, ℕ, ◌-◌, ◌<◌, false, get_or, sym, ap, ◌∙◌, arith}
-use Rattle.kinds.specs.Strings.{Str, bits, weighs}
-use Rattle.kinds.specs.Bits.{bits_at, bits_past}
+use Rattle.std.proofs.Common.{◌≡◌, ◌-◌, false, get_or, sym, ap, ◌∙◌, arith}
+use Rattle.kinds.specs.Strings.{Str, weighs}
+use Rattle.kinds.specs.Bits.{bits_at}
 use Rattle.kinds.proofs.address.Address.bit.Goals as goal
 
 pub returns-then-i-WIDTH : goal.returns-then-i-WIDTH
@@ -10,9 +10,5 @@ returns-then-i-WIDTH g c =
     let w = g.Self.Address.WIDTH in
     let n = g.Self.Written.number p in
     let string = g.met.Self.Address.spelt x ∙ g.met.Self.Address.first p in
-    let number : g.Self.Pattern.Plain.number c.write.result ≡ n = ap g.Self.Pattern.Plain.number c.write.ensures ∙ sym (g.met.Self.Written.plain p) in
     let place : c.WIDTH-then-i-WIDTH.result - 1 - c.args.i ≡ w - 1 - c.args.i = omega arith in
-    c.has_bit.ensures
-    ∙ (λ j. weighs (number j) (place j))
-    ∙ sym (bits_at w n c.args.i (omega arith))
-    ∙ ap (λ (t : Str). get_or t c.args.i false) (sym string)
+    c.weighs.ensures ∙ ap (weighs n) place ∙ sym (bits_at w n c.args.i (omega arith)) ∙ ap (λ (t : Str). get_or t c.args.i false) (sym string)
