@@ -1,6 +1,7 @@
 -- Sums of 16-bit numbers, and what they come to when carries are added back.
-use Rattle.std.proofs.Common.{◌≡◌, ℕ, zero, suc, ◌+◌, ◌*◌, ◌/◌, ◌<◌, ◌≤◌, eqb, List, [], ◌∷◌, length, get_or, take, drop, set, sym, refl, ap, ◌∙◌, inl, inr, add-one, arith, length-drop, length-take-le, get_or-drop, get_or-set_other, get_or-take, get_or-set_same}
+use Rattle.std.proofs.Common.{◌≡◌, ℕ, zero, suc, ◌+◌, ◌*◌, ◌/◌, ◌<◌, ◌≤◌, eqb, List, [], ◌∷◌, length, get_or, take, drop, set, sym, refl, ap, ◌∙◌, inl, inr, add-one, add-zero, drop-drop, arith, length-drop, length-take-le, get_or-drop, get_or-set_other, get_or-take, get_or-set_same}
 use Rattle.std.proofs.lemmas.Bool.Decides.{nat_tests, leb_tells}
+use Rattle.std.specs.Simd.{first_chunks}
 use Rattle.packets.specs.Header.{number, octet, word, word_sum, ones_complement}
 use Rattle.packets.specs.Datagram.{all_ones}
 
@@ -13,6 +14,20 @@ sum_none b = refl
 pub sum_more : (b : List ℕ) (k : ℕ) → word_sum b (k + 1) ≡ word_sum b k + word b (2 * k)
 unfolding word_sum
 sum_more b k = rw (add-one k) refl
+
+-- piece i of a list that is cut into pieces
+chunk_at : (n k i : ℕ) (b : List ℕ) → i < k → get_or (first_chunks n k b) i [] ≡ take n (drop (n * i) b)
+chunk_at n zero i b h = absurd (let no : ⊥ = omega arith in no)
+chunk_at n (suc k) zero b h = let none : 0 ≡ n * 0 = omega arith in ap (λ (m : ℕ). take n (drop m b)) none
+chunk_at n (suc k) (suc i) b h = chunk_at n k i (drop n b) (omega arith) ∙ ap (take n) (drop-drop (n * i) n b ∙ ap (λ (m : ℕ). drop m b) (omega arith))
+
+-- pair i of a list that is cut into pairs is the number at its place
+pub pair_at : (b : List ℕ) (k i : ℕ) → i < k → word (get_or (first_chunks 2 k b) i []) 0 ≡ word b (2 * i)
+pair_at b k i h =
+    let pair : get_or (first_chunks 2 k b) i [] ≡ take 2 (drop (2 * i) b) = chunk_at 2 k i b h in
+    let high : octet (take 2 (drop (2 * i) b)) 0 ≡ octet b (2 * i) = get_or-take 2 (drop (2 * i) b) 0 0 (omega arith) ∙ get_or-drop (2 * i) b 0 0 ∙ ap (octet b) (add-zero (2 * i)) in
+    let low : octet (take 2 (drop (2 * i) b)) 1 ≡ octet b (2 * i + 1) = get_or-take 2 (drop (2 * i) b) 1 0 (omega arith) ∙ get_or-drop (2 * i) b 1 0 in
+    rw pair (omega (arith, high, low))
 
 -- adding to a total whose carries are added back already
 pub carry_more : (n w : ℕ) → ones_complement (ones_complement n + w) ≡ ones_complement (n + w)
