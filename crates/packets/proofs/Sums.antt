@@ -1,14 +1,9 @@
 -- Sums of 16-bit numbers, and what they come to when carries are added back.
-use Rattle.std.proofs.Common.{◌≡◌, ℕ, zero, suc, ◌+◌, ◌*◌, ◌/◌, ◌<◌, ◌≤◌, eqb, List, [], ◌∷◌, length, get_or, take, drop, set, sym, refl, ap, ◌∙◌, inl, inr, add-one, add-zero, drop-drop, arith, length-drop, length-take-le, get_or-drop, get_or-set_other, get_or-take, get_or-set_same}
+use Rattle.std.proofs.Common.{◌≡◌, ℕ, zero, suc, ◌+◌, ◌-◌, ◌*◌, ◌/◌, ◌<◌, ◌≤◌, eqb, List, [], ◌∷◌, length, get_or, take, drop, set, sym, refl, ap, ◌∙◌, inl, inr, add-one, add-zero, drop-drop, arith, length-drop, length-take-le, get_or-drop, get_or-set_other, get_or-take, get_or-set_same}
 use Rattle.std.proofs.lemmas.Bool.Decides.{nat_tests, leb_tells}
 use Rattle.std.specs.Simd.{first_chunks}
-use Rattle.packets.specs.Header.{number, octet, word, word_sum, ones_complement}
+use Rattle.packets.specs.Header.{part, number, octet, word, word_sum, ones_complement}
 use Rattle.packets.specs.Datagram.{all_ones}
-
--- no number adds up to 0
-pub sum_none : (b : List ℕ) → word_sum b 0 ≡ 0
-unfolding word_sum
-sum_none b = refl
 
 -- one number more
 pub sum_more : (b : List ℕ) (k : ℕ) → word_sum b (k + 1) ≡ word_sum b k + word b (2 * k)
@@ -61,15 +56,16 @@ sum_front b n k h e =
     ap (word_sum (take n b)) half ∙ sum_take n b (k * 2) (omega arith)
 
 -- the number of the four bytes from place n on
-pub number_four : (b : List ℕ) (n : ℕ) → n + 4 ≤ length b → number (take 4 (drop n b)) ≡ octet b n * 16777216 + octet b (n + 1) * 65536 + octet b (n + 2) * 256 + octet b (n + 3)
+pub number_four : (b : List ℕ) (n : ℕ) → n + 4 ≤ length b → number (part n (n + 4) b) ≡ octet b n * 16777216 + octet b (n + 1) * 65536 + octet b (n + 2) * 256 + octet b (n + 3)
 number_four b n h =
+    let size : n + 4 - n ≡ 4 = omega arith in
     let first = get_or-drop n b 0 0 in
     let second = get_or-drop n b 1 0 in
     let third = get_or-drop n b 2 0 in
     let fourth = get_or-drop n b 3 0 in
-    let same : get_or b (n + 0) 0 ≡ octet b n = ap (λ (i : ℕ). get_or b i 0) (omega arith) in
+    let same : get_or b (n + 0) 0 ≡ octet b n = ap (octet b) (add-zero n) in
     let long : 4 ≤ length (drop n b) = omega (arith, length-drop n b) in
-    omega (arith, four (drop n b) long)
+    rw size (omega (arith, four (drop n b) long))
 
 -- a byte behind the numbers that are added changes nothing
 pub sum_beyond : (b : List ℕ) (i v k : ℕ) → 2 * k ≤ i → word_sum (set b i v) k ≡ word_sum b k

@@ -10,6 +10,7 @@ fn add_with_carry(a: u16, b: u16) -> u16
 }
 
 // The ones' complement sum of byte pairs, most significant byte first; an odd last byte is left out.
+#[tactic(auto, unfolding(crate::specs::Header::word_sum))]
 pub fn ones_complement_sum(bytes: &[u8]) -> u16
     ensures { result ≡ ones_complement (word_sum bytes.now (length bytes.now / 2)) }
 {

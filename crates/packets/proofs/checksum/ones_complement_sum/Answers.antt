@@ -1,10 +1,7 @@
-use Rattle.std.proofs.Common.{ℕ, ◌*◌, ◌/◌, length, List, refl, arith}
+use Rattle.std.proofs.Common.{ℕ, ◌*◌, ◌/◌, length, List, arith}
 use Rattle.packets.specs.Header.{word_sum, word}
-use Rattle.packets.proofs.Sums.{sum_none, sum_more, carry_more, pair_at}
+use Rattle.packets.proofs.Sums.{sum_more, carry_more, pair_at}
 use Rattle.packets.proofs.checksum.ones_complement_sum.Goals as goal
-
-pub loop-pair-init : goal.loop-pair-init
-loop-pair-init c = rw (sum_none c.args.bytes.now) refl
 
 pub loop-pair-preserved : goal.loop-pair-preserved
 loop-pair-preserved c =
