@@ -1,19 +1,19 @@
 // Reads items from standard input, one after another through one buffer, and prints a line for each.
 #![tactic(auto)]
 
-use report::{ITEM_BYTES, MOST_ITEMS, next_item, split, tell};
+use report::{ITEM_BYTES, Items, MOST_ITEMS, next_item, tell};
 use std::io;
 
 fn main(rt: HostRuntime) -> io::Result<()> {
     let mut input = rt.stdin();
     let mut bytes = [0u8; ITEM_BYTES];
     for _ in 0..MOST_ITEMS {
-        let got = next_item(&mut input, &mut bytes)?;
-        let (item, _) = split(&bytes[..got]);
-        if let Some(line) = tell(item) {
-            println!(rt; "{line}")?;
-        }
-        if !item.goes_on() {
+        let Some(item) = Items::new(next_item(&mut input, &mut bytes)?).next() else {
+            break;
+        };
+        let line = tell(item);
+        println!(rt; "{line}")?;
+        if item.is_err() {
             break;
         }
     }

@@ -5,7 +5,7 @@ use std::io;
 use std::io::Read;
 
 // Reads until `bytes` is full or the input ends, and answers how many bytes came. A read may bring fewer bytes than
-// there is room for, but brings at least one before the input's end.
+// there is room for, but brings at least one before the input's end. `read_exact` does not tell how many bytes came.
 fn fill<R: Read>(input: &mut R, bytes: &mut [u8]) -> io::Result<usize>
     ensures { IfOk result (λ n. n ≤ length bytes.new) }
 {
@@ -20,17 +20,20 @@ fn fill<R: Read>(input: &mut R, bytes: &mut [u8]) -> io::Result<usize>
     Ok(filled)
 }
 
-// Reads the bytes of one item to the front of `bytes`, as many as its head asks for and no more, and answers how many
+// Reads the bytes of one item to the front of `bytes`, as many as its head asks for and no more, and answers those that
 // came: fewer only where the input ended.
-pub fn next_item<R: Read>(input: &mut R, bytes: &mut [u8; ITEM_BYTES]) -> io::Result<usize>
-    ensures { IfOk result (λ n. n ≤ 1504) }
+pub fn next_item<'b, R: Read>(
+    input: &mut R,
+    bytes: &'b mut [u8; ITEM_BYTES],
+) -> io::Result<&'b [u8]>
+    ensures { IfOk result (λ item. length item.now ≤ 1504) }
 {
     let head = wanted(&[]);
     let first = fill(input, &mut bytes[..head])?;
     if first < head {
-        return Ok(first);
+        return Ok(&bytes[..first]);
     }
     let all = wanted(&bytes[..first]);
     let more = fill(input, &mut bytes[first..all])?;
-    Ok(first + more)
+    Ok(&bytes[..first + more])
 }
