@@ -1,5 +1,5 @@
 // A reader that brings one byte at a time, as a slow pipe may.
-use report::{ITEM_BYTES, MOST_ITEMS, next_item, split, tell};
+use report::{ITEM_BYTES, Items, MOST_ITEMS, next_item, tell};
 use std::alloc::Global;
 use std::io;
 use std::io::Read;
@@ -27,12 +27,12 @@ pub(crate) fn streamed(heap: Global, input: &[u8]) -> io::Result<String> {
     let mut bytes = [0u8; ITEM_BYTES];
     let mut text = String::new(heap);
     for _ in 0..MOST_ITEMS {
-        let got = next_item(&mut drip, &mut bytes)?;
-        let (item, _) = split(&bytes[..got]);
-        if let Some(line) = tell(item) {
-            text.push_str(format!(in heap; "{line}\n")?.as_str())?;
-        }
-        if !item.goes_on() {
+        let Some(item) = Items::new(next_item(&mut drip, &mut bytes)?).next() else {
+            break;
+        };
+        let line = tell(item);
+        text.push_str(format!(in heap; "{line}\n")?.as_str())?;
+        if item.is_err() {
             break;
         }
     }
