@@ -1,2 +1,3 @@
 pub mod Splits
+pub mod Streams
 pub mod Texts
