@@ -45,7 +45,7 @@ mod tests {
             let input = decode(heap, text)?;
             let lines = report(heap, input.as_slice())?;
             assert!(rt;
-                streamed(heap, input.as_slice())?.as_str() == lines.as_str(),
+                streamed(heap, input.as_slice())?.as_slice() == lines.as_bytes(),
                 "{}",
                 text
             );

@@ -1,5 +1,5 @@
 -- What reads took from an input whose bytes are known.
-use Rattle.std.proofs.Common.{◌≡◌, ℕ, ◌+◌, ◌<◌, ◌≤◌, ◌⊎◌, List, [], ◌++◌, length, take, drop, Some, None, Option, sym, ap, ◌∙◌, le_refl, append_assoc, drop_at, length-take-le, take-add, take_all, take_at, append-nil, inl, inr, arith, IfSome, length-append, subst, ◌-◌}
+use Rattle.std.proofs.Common.{◌≡◌, ℕ, ◌+◌, ◌<◌, ◌≤◌, List, [], ◌++◌, length, take, drop, Some, None, Option, sym, ap, ◌∙◌, le_refl, append_assoc, drop_at, length-take-le, take-add, take_all, take_at, append-nil, inl, inr, arith, IfSome, length-append, subst, ◌-◌}
 use Rattle.std.proofs.lemmas.Slice.{take-put_mid_below}
 use Rattle.std.specs.Io.KnownBytes.{Consumes, IsAtEnd}
 use Rattle.std.proofs.lemmas.Bool.Decides.{nat_tests, leb_tells}

@@ -4,7 +4,7 @@ use Rattle.report.specs.Items.{end, front, goes_on, behind, left}
 use Rattle.report.specs.Lines.{Told, told_of, text, before, lines}
 
 -- nothing left has no lines
-lines_empty : (n : ℕ) → lines n [] ≡ []
+pub lines_empty : (n : ℕ) → lines n [] ≡ []
 unfolding lines
 lines_empty zero = refl
 lines_empty (suc n) = refl

@@ -1,14 +1,17 @@
-ghost use Rattle.std.specs.Prelude.{◌≡◌, IfOk, Some, string_bytes};
+ghost use Rattle.std.specs.Prelude.{◌≡◌, IfOk, OnOk, IfSome, Some, string_bytes};
+ghost use Rattle.std.specs.Io.KnownBytes.{Appends};
 ghost use Rattle.packets.specs.declared.fault.PacketFault.{PacketFault};
 ghost use Rattle.report.specs.declared.lines.LineFault.TheVariants.{Denied};
 ghost use Rattle.report.specs.Items.{meant};
 ghost use Rattle.report.specs.Lines.{dotted, ports_text, text, said, said_of_fault, outcome, told_of, fault_of, lines};
 
-use super::items::{Item, ItemFault, Items, MOST_ITEMS};
+use super::items::{ITEM_BYTES, Item, ItemFault, Items, MOST_ITEMS};
+use super::stream::next_item;
 use kinds::ipv4::Ipv4;
 use packets::{Packet, PacketFault, Ports};
 use std::alloc::{AllocError, Global};
-use std::fmt;
+use std::io::{Read, Write};
+use std::{fmt, io};
 
 // Why an item tells of no packet.
 #[derive(Clone, Copy, PartialEq, Eq, Debug)]
@@ -134,4 +137,22 @@ pub fn report(heap: Global, input: &[u8]) -> Result<String, AllocError>
         text.push_str(format!(in heap; "{line}\n")?.as_str())?;
     }
     Ok(text)
+}
+
+// Prints the lines of an input that comes by reads, each as soon as its item is read, through a buffer of one item.
+pub fn print_report<R: Read, W: Write>(input: &mut R, out: &mut W) -> io::Result<()>
+    ensures { OnOk result (IfSome (R.remaining input.old) (λ b. Appends (W.contents out.old) (W.contents out.new) (lines 65536 b))) }
+{
+    let mut bytes = [0u8; ITEM_BYTES];
+    for _ in 0..MOST_ITEMS {
+        let Some(item) = Items::new(next_item(input, &mut bytes)?).next() else {
+            break;
+        };
+        let line = tell(item);
+        writeln!(out, "{line}")?;
+        if item.is_err() {
+            break;
+        }
+    }
+    Ok(())
 }
