@@ -3,7 +3,9 @@
 
 use report::print_report;
 use std::io;
+use std::io::LineWriter;
 
 fn main(rt: HostRuntime) -> io::Result<()> {
-    print_report(&mut rt.stdin(), &mut rt.stdout())
+    let mut lines = LineWriter::new(rt.alloc(), rt.stdout())?;
+    print_report(&mut rt.stdin(), &mut lines)
 }
