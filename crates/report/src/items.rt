@@ -60,7 +60,7 @@ pub fn split(input: &[u8]) -> Result<Option<(Item<'_>, &[u8])>, ItemFault>
 }
 
 // The items of an input, one after another; a fault is the last.
-#[derive(Clone, Copy)]
+#[derive(Drop)]
 pub struct Items<'i> {
     rest: &'i [u8],
 }

@@ -1,6 +1,5 @@
 ghost use Rattle.std.specs.Prelude.{◌≡◌, IfOk, OnOk, IfSome, Some, string_bytes};
 ghost use Rattle.std.specs.Io.KnownBytes.{Appends};
-ghost use Rattle.packets.specs.declared.fault.PacketFault.{PacketFault};
 ghost use Rattle.report.specs.declared.lines.LineFault.TheVariants.{Denied};
 ghost use Rattle.report.specs.Items.{meant};
 ghost use Rattle.report.specs.Lines.{dotted, ports_text, text, said, said_of_fault, outcome, told_of, fault_of, lines};
@@ -41,7 +40,7 @@ impl From<ItemFault> for LineFault {
 }
 
 // What is told of one item: its packet, or why there is none.
-#[derive(Clone, Copy)]
+#[derive(Clone, Copy, PartialEq, Eq, Debug)]
 pub struct Line<'p>(pub Result<Packet<'p>, LineFault>);
 
 // An address in dotted decimal.
@@ -66,12 +65,7 @@ impl fmt::Display for PortsShown {
 
     fn fmt<W: fmt::Write>(&self, f: &mut fmt::Formatter<W>) -> fmt::Result {
         match self.0 {
-            Some(
-                Ports {
-                    source,
-                    destination,
-                },
-            ) => write!(f, " ports {source} {destination}"),
+            Some(ports) => write!(f, " ports {} {}", ports.source, ports.destination),
             None => Ok(()),
         }
     }
