@@ -1,21 +1,11 @@
-// Reads items from standard input, one after another through one buffer, and prints a line for each.
+// Reads items from standard input, one after another, and prints a line for each.
 #![tactic(auto)]
 
-use report::{ITEM_BYTES, MOST_ITEMS, next_item, split, tell};
+use report::print_report;
 use std::io;
+use std::io::LineWriter;
 
 fn main(rt: HostRuntime) -> io::Result<()> {
-    let mut input = rt.stdin();
-    let mut bytes = [0u8; ITEM_BYTES];
-    for _ in 0..MOST_ITEMS {
-        let got = next_item(&mut input, &mut bytes)?;
-        let (item, _) = split(&bytes[..got]);
-        if let Some(line) = tell(item) {
-            println!(rt; "{line}")?;
-        }
-        if !item.goes_on() {
-            break;
-        }
-    }
-    Ok(())
+    let mut lines = LineWriter::new(rt.alloc(), rt.stdout())?;
+    print_report(&mut rt.stdin(), &mut lines)
 }

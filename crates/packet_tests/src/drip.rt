@@ -1,5 +1,5 @@
 // A reader that brings one byte at a time, as a slow pipe may.
-use report::{ITEM_BYTES, MOST_ITEMS, next_item, split, tell};
+use report::print_report;
 use std::alloc::Global;
 use std::io;
 use std::io::Read;
@@ -7,34 +7,25 @@ use std::io::Read;
 #[derive(Drop)]
 pub struct Drip<'a> {
     pub input: &'a [u8],
-    pub at: usize,
 }
 
 impl Read for Drip<'_> {
     fn read(&mut self, buf: &mut [u8]) -> io::Result<usize> {
-        if buf.len() == 0 || self.at >= self.input.len() {
+        let Some((byte, rest)) = self.input.split_first() else {
             return Ok(0);
-        }
-        buf[0] = self.input[self.at];
-        self.at += 1;
+        };
+        let Some(place) = buf.first_mut() else {
+            return Ok(0);
+        };
+        *place = *byte;
+        self.input = rest;
         Ok(1)
     }
 }
 
-// The lines of an input that comes byte by byte, as the program reads it.
-pub(crate) fn streamed(heap: Global, input: &[u8]) -> io::Result<String> {
-    let mut drip = Drip { input, at: 0 };
-    let mut bytes = [0u8; ITEM_BYTES];
-    let mut text = String::new(heap);
-    for _ in 0..MOST_ITEMS {
-        let got = next_item(&mut drip, &mut bytes)?;
-        let (item, _) = split(&bytes[..got]);
-        if let Some(line) = tell(item) {
-            text.push_str(format!(in heap; "{line}\n")?.as_str())?;
-        }
-        if !item.goes_on() {
-            break;
-        }
-    }
+// The lines of an input that comes byte by byte, as the program prints them.
+pub(crate) fn streamed(heap: Global, input: &[u8]) -> io::Result<Vec<u8>> {
+    let mut text = Vec::new(heap);
+    print_report(&mut Drip { input }, &mut text)?;
     Ok(text)
 }

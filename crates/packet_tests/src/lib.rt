@@ -3,6 +3,6 @@
 
 pub mod cases;
 pub mod drip;
-pub mod hex;
 pub mod tables;
 pub mod whole;
+pub mod written;

@@ -2,7 +2,7 @@
 #[cfg(test)]
 mod tests {
     use crate::cases;
-    use crate::hex::failing;
+    use crate::written::failing;
     use std::test::Fail;
 
     #[test]

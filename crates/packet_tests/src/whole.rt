@@ -2,7 +2,7 @@
 #[cfg(test)]
 mod tests {
     use crate::drip::streamed;
-    use crate::hex::bytes;
+    use hex::decode;
     use packets::{PacketFault, read};
     use report::report;
     use std::test::Fail;
@@ -11,7 +11,7 @@ mod tests {
     #[test]
     fn longest(rt: HostRuntime) -> Result<(), Fail> {
         let heap = rt.alloc();
-        let mut input = bytes(heap, "000005dc450005dc00000000400188e7c0000201c6336405")?;
+        let mut input = decode(heap, "000005dc450005dc00000000400188e7c0000201c6336405")?;
         input.resize(1504, 0)?;
         assert!(rt;
             report(heap, input.as_slice())?.as_str()
@@ -42,10 +42,10 @@ mod tests {
             "00000014450000140000000040118e9fc0000201c633640500000014450000140000000040018eafc0000201c6336405",
             "0000000000000000000005dd00",
         ] {
-            let input = bytes(heap, text)?;
+            let input = decode(heap, text)?;
             let lines = report(heap, input.as_slice())?;
             assert!(rt;
-                streamed(heap, input.as_slice())?.as_str() == lines.as_str(),
+                streamed(heap, input.as_slice())?.as_slice() == lines.as_bytes(),
                 "{}",
                 text
             );
@@ -57,7 +57,7 @@ mod tests {
     #[test]
     fn parts(rt: HostRuntime) -> Result<(), Fail> {
         let heap = rt.alloc();
-        let input = bytes(
+        let input = decode(
             heap,
             "4500001c0000000040118e97c0000201c63364053132333435363738626579",
         )?;

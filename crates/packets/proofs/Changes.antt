@@ -1,5 +1,5 @@
 -- What RFC 791 promises of headers: the proofs.
-use Rattle.std.proofs.Common.{◌≡◌, ℕ, ◌+◌, ◌-◌, ◌*◌, ◌/◌, ◌%◌, ◌^◌, ◌<◌, ◌≤◌, Bool, true, false, cond, not, ◌||◌, eqb, ltb, ◌⊎◌, List, [], ◌∷◌, length, take, drop, set, Ok, Err, Result, sym, refl, ap, ◌∙◌, subst, inl, inr, arith, length-drop, length-set, get_or-drop, get_or-set_other, get_or-set_same, pow_pos, pow_mono, pow-add, ltb-false, eq-eqb, eqb-true}
+use Rattle.std.proofs.Common.{◌≡◌, ℕ, ◌+◌, ◌-◌, ◌*◌, ◌/◌, ◌%◌, ◌^◌, ◌<◌, ◌≤◌, Bool, true, false, cond, not, ◌||◌, eqb, ltb, ◌⊎◌, List, [], ◌∷◌, length, take, drop, set, Ok, Err, Result, sym, refl, ap, ◌∙◌, inl, inr, arith, length-drop, length-set, get_or-drop, get_or-set_other, get_or-set_same, pow_pos, pow_mono, pow-add, ltb-false, eq-eqb, eqb-true}
 use native.Mathlib.Nat.{div-eq_of_lt}
 use borrow.Author.Tests.{not-false}
 use Rattle.std.proofs.lemmas.Bool.Decides.{nat_tests, leb_tells, eqb_tells}
@@ -8,7 +8,7 @@ use Rattle.packets.specs.declared.fault.PacketFault.TheVariants.{Short, Version,
 use Rattle.packets.specs.Header.{part, number, octet, word_sum, ones_complement}
 use Rattle.packets.specs.Datagram.{Datagram, version, header_words, header_length, total_length, header_sum, all_ones, datagram, fields}
 use Rattle.packets.specs.Facts.{Bytes, octets, AddressFields, rest_sum, ComplementAccepted, changed, Refused, ChangedBitRefused}
-use Rattle.packets.proofs.Sums.{sum_high, sum_low}
+use Rattle.packets.proofs.Sums.{sum_set, weight_upper, weight_lower}
 use Rattle.packets.proofs.Order.{Sized, at_end}
 
 -- a check that an accepted value passed
@@ -91,8 +91,8 @@ complete n = grind (arith, nat_tests)
 
 pub complement_accepted : ComplementAccepted
 complement_accepted b long four words above within field =
-    let low = sum_low (set b 10 0) 5 0 (header_words b * 2) (omega (arith, length-set b 10 0)) (omega arith) in
-    let high = sum_high b 5 0 (header_words b * 2) (omega arith) (omega arith) in
+    let low = rw (weight_lower 11 refl) at (sum_set (set b 10 0) 11 0 (header_words b * 2) (omega (arith, length-set b 10 0)) (omega arith)) in
+    let high = rw (weight_upper 10 refl) at (sum_set b 10 0 (header_words b * 2) (omega arith) (omega arith)) in
     let other : octet (set b 10 0) 11 ≡ octet b 11 = get_or-set_other b 10 11 0 0 (omega arith) in
     let all : header_sum b ≡ rest_sum b + (65535 - ones_complement (rest_sum b)) = omega arith in
     at_end b
@@ -138,38 +138,20 @@ same_words b i k l h =
           omega arith
     ]
 
--- a changed bit of an upper byte
-high_bit : (b : List ℕ) (d : Datagram) (j k : ℕ) → datagram b ≡ Ok d → 2 * j < header_length b → k < 8 → (2 * j ≡ 0 → 4 ≤ k) → Refused (datagram (set b (2 * j) (changed k (octet b (2 * j)))))
-high_bit b d j k h inside small but =
-    let a = (accepted b d h).sized in
-    let room : 2 * j < length b = omega (arith, a.above, a.within) in
-    let v : ℕ = changed k (octet b (2 * j)) in
-    let least : 0 < 2 ^ k = pow_pos k in
-    let most : 2 ^ k ≤ 2 ^ 7 = pow_mono {i = k} {j = 7} (omega arith) in
-    let sum = sum_high b j v (header_words b * 2) room (omega arith) in
-    moved b d (2 * j) v (2 ^ k * 256) h (same_words b (2 * j) k room but) (omega arith) (omega arith)
-    (elim (weighed k (octet b (2 * j))) [ inl m ↦ inl (omega arith) | inr m ↦ inr (omega arith) ])
-
--- a changed bit of a lower byte
-low_bit : (b : List ℕ) (d : Datagram) (j k : ℕ) → datagram b ≡ Ok d → 2 * j + 1 < header_length b → k < 8 → (2 * j + 1 ≡ 0 → 4 ≤ k) → Refused (datagram (set b (2 * j + 1) (changed k (octet b (2 * j + 1)))))
-low_bit b d j k h inside small but =
-    let a = (accepted b d h).sized in
-    let room : 2 * j + 1 < length b = omega (arith, a.above, a.within) in
-    let v : ℕ = changed k (octet b (2 * j + 1)) in
-    let least : 0 < 2 ^ k = pow_pos k in
-    let most : 2 ^ k ≤ 2 ^ 7 = pow_mono {i = k} {j = 7} (omega arith) in
-    let sum = sum_low b j v (header_words b * 2) room (omega arith) in
-    moved b d (2 * j + 1) v (2 ^ k) h (same_words b (2 * j + 1) k room but) (omega arith) (omega arith)
-    (elim (weighed k (octet b (2 * j + 1))) [ inl m ↦ inl (omega arith) | inr m ↦ inr (omega arith) ])
-
 pub changed_bit_refused : ChangedBitRefused
 changed_bit_refused b d i k h inside small but =
-    let P : ℕ → Type 0 = λ n. n < header_length b → (n ≡ 0 → 4 ≤ k) → Refused (datagram (set b n (changed k (octet b n)))) in
+    let a = (accepted b d h).sized in
+    let room : i < length b = omega (arith, a.above, a.within) in
+    let v : ℕ = changed k (octet b i) in
+    let least : 0 < 2 ^ k = pow_pos k in
+    let most : 2 ^ k ≤ 2 ^ 7 = pow_mono {i = k} {j = 7} (omega arith) in
+    let sum = sum_set b i v (header_words b * 2) room (omega arith) in
+    let words = same_words b i k room but in
     elim (eqb_tells (i % 2) 0) [
       | inl e ↦
-          let even : 2 * (i / 2) ≡ i = omega arith in
-          subst P even (λ n l. high_bit b d (i / 2) k h n small l) inside but
+          let upper = rw (weight_upper i e.1) at sum in
+          moved b d i v (2 ^ k * 256) h words (omega arith) (omega arith) (elim (weighed k (octet b i)) [ inl m ↦ inl (omega arith) | inr m ↦ inr (omega arith) ])
       | inr e ↦
-          let odd : 2 * (i / 2) + 1 ≡ i = omega arith in
-          subst P odd (λ n l. low_bit b d (i / 2) k h n small l) inside but
+          let lower = rw (weight_lower i (omega arith)) at sum in
+          moved b d i v (2 ^ k) h words (omega arith) (omega arith) (elim (weighed k (octet b i)) [ inl m ↦ inl (omega arith) | inr m ↦ inr (omega arith) ])
     ]

@@ -85,8 +85,8 @@ datagram b = unless (checks b) (fields b)
 -- a packet that was read, by its values
 abbrev pub carried : Packet → Datagram
 carried p = record {
-  source = p.source;
-  destination = p.destination;
+  source = p.source.number;
+  destination = p.destination.number;
   protocol = p.protocol;
   payload = p.payload.now;
   ports = p.ports;

@@ -10,12 +10,14 @@ fn add_with_carry(a: u16, b: u16) -> u16
 }
 
 // The ones' complement sum of byte pairs, most significant byte first; an odd last byte is left out.
+#[tactic(auto, unfolding(crate::specs::Header::word_sum))]
 pub fn ones_complement_sum(bytes: &[u8]) -> u16
     ensures { result ≡ ones_complement (word_sum bytes.now (length bytes.now / 2)) }
 {
+    let (pairs, _) = bytes.as_chunks::<2>();
     let mut sum = 0u16;
-    for i in 0..bytes.len() / 2 {
-        sum = add_with_carry(sum, u16::from_be_bytes([bytes[2 * i], bytes[2 * i + 1]]));
+    for pair in pairs {
+        sum = add_with_carry(sum, u16::from_be_bytes(*pair));
     }
     sum
 }

@@ -1,10 +1,11 @@
-ghost use Rattle.std.specs.Prelude.{◌≡◌, ◌/◌, ◌%◌, ◌≤◌, ◌||◌, length, ◌==◌, nat_lt};
+ghost use Rattle.std.specs.Prelude.{◌≡◌, ◌+◌, ◌/◌, ◌%◌, ◌≤◌, ◌||◌, length, ◌==◌, nat_lt};
 ghost use Rattle.packets.specs.Datagram.{answered, datagram, ports_of, total_length};
-ghost use Rattle.packets.specs.Header.{ones_complement, word_sum};
+ghost use Rattle.packets.specs.Header.{number, ones_complement, part, word_sum};
 
 use super::checksum::ones_complement_sum;
 use super::fault::PacketFault;
 use super::packet::{Packet, Ports};
+use kinds::ipv4::Ipv4;
 
 // The fewest bytes of a header.
 const SHORTEST: usize = 20;
@@ -22,14 +23,15 @@ const UDP: u8 = 17;
 fn ports(protocol: u8, payload: &[u8]) -> Option<Ports>
     ensures { result ≡ ports_of protocol payload.now }
 {
-    if (protocol == TCP || protocol == UDP) && payload.len() >= 4 {
-        Some(Ports {
-            source: u16::from_be_bytes([payload[0], payload[1]]),
-            destination: u16::from_be_bytes([payload[2], payload[3]]),
-        })
-    } else {
-        None
+    if !matches!(protocol, TCP | UDP) {
+        return None;
     }
+    let (source, rest) = payload.split_first_chunk()?;
+    let (destination, _) = rest.split_first_chunk()?;
+    Some(Ports {
+        source: u16::from_be_bytes(*source),
+        destination: u16::from_be_bytes(*destination),
+    })
 }
 
 // Whether there are fewer bytes than the shortest header has.
@@ -82,6 +84,19 @@ fn adds_up(header: &[u8]) -> bool
     ones_complement_sum(header) == 0xFFFF
 }
 
+// The address whose first byte stands at `place`.
+fn address(bytes: &[u8], place: usize) -> Ipv4
+    requires { place + 4 ≤ length bytes.now }
+    ensures { result.number ≡ number (part place (place + 4) bytes.now) }
+{
+    Ipv4::new(u32::from_be_bytes([
+        bytes[place],
+        bytes[place + 1],
+        bytes[place + 2],
+        bytes[place + 3],
+    ]))
+}
+
 // Reads a packet from the front of `bytes`, or says the first thing that is wrong with it.
 pub fn read(bytes: &[u8]) -> Result<Packet<'_>, PacketFault>
     ensures { answered result ≡ datagram bytes.now }
@@ -107,8 +122,8 @@ pub fn read(bytes: &[u8]) -> Result<Packet<'_>, PacketFault>
     let protocol = bytes[9];
     let payload = &bytes[header..total];
     Ok(Packet {
-        source: u32::from_be_bytes([bytes[12], bytes[13], bytes[14], bytes[15]]),
-        destination: u32::from_be_bytes([bytes[16], bytes[17], bytes[18], bytes[19]]),
+        source: address(bytes, 12),
+        destination: address(bytes, 16),
         protocol,
         payload,
         ports: ports(protocol, payload),

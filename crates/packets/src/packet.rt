@@ -10,11 +10,10 @@ pub struct Ports {
 }
 
 // What an IPv4 packet says. The payload is a part of the bytes that were read.
-// Addresses are kept as their patterns, and read by the methods.
-#[derive(Clone, Copy)]
+#[derive(Clone, Copy, PartialEq, Eq, Debug)]
 pub struct Packet<'p> {
-    pub(crate) source: u32,
-    pub(crate) destination: u32,
+    pub source: Ipv4,
+    pub destination: Ipv4,
     pub protocol: u8,
     pub payload: &'p [u8],
     pub ports: Option<Ports>,
@@ -23,15 +22,15 @@ pub struct Packet<'p> {
 impl Packet<'_> {
     // The address that the packet comes from.
     pub fn source(&self) -> Ipv4
-        ensures { result.number ≡ self.now.source }
+        ensures { result ≡ self.now.source }
     {
-        Ipv4::new(self.source)
+        self.source
     }
 
     // The address that the packet goes to.
     pub fn destination(&self) -> Ipv4
-        ensures { result.number ≡ self.now.destination }
+        ensures { result ≡ self.now.destination }
     {
-        Ipv4::new(self.destination)
+        self.destination
     }
 }

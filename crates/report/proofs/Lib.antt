@@ -1,2 +1,4 @@
+pub mod Prints
 pub mod Splits
+pub mod Streams
 pub mod Texts

@@ -1,24 +1,13 @@
 -- The first item of an input.
-use Rattle.std.proofs.Common.{◌≡◌, ℕ, ◌+◌, ◌*◌, ◌<◌, ◌≤◌, ◌⊎◌, List, [], ◌∷◌, length, get_or, take, drop, sym, refl, ap, ◌∙◌, inl, inr, arith, length-take-le, take_all, take-take}
+use Rattle.std.proofs.Common.{◌≡◌, ℕ, ◌+◌, ◌<◌, ◌≤◌, ◌⊎◌, true, List, length, take, drop, sym, ap, ◌∙◌, inl, inr, arith, length-take-le, take_all, take-take}
 use Rattle.std.proofs.lemmas.Bool.Decides.{nat_tests, leb_tells}
 use Rattle.std.proofs.lemmas.Slice.{between_is}
 use Rattle.packets.specs.Header.{part, number}
-use Rattle.report.specs.Items.{whole, long, announced, front, behind, needed}
-
--- the socket and the length that four bytes or more begin with
-pub head : (b : List ℕ) → 4 ≤ length b → (number (part 0 2 b) ≡ get_or b 0 0 * 256 + get_or b 1 0) × (announced b ≡ get_or b 2 0 * 256 + get_or b 3 0)
-head [] h = absurd (let no : ⊥ = omega arith in no)
-head (x ∷ []) h = absurd (let no : ⊥ = omega arith in no)
-head (x ∷ y ∷ []) h = absurd (let no : ⊥ = omega arith in no)
-head (x ∷ y ∷ z ∷ []) h = absurd (let no : ⊥ = omega arith in no)
-head (x ∷ y ∷ z ∷ u ∷ b) h = (omega arith, omega arith)
+use Rattle.report.specs.Items.{whole, long, announced, front, goes_on, needed}
 
 -- an item that is all there
 pub at_whole : (b : List ℕ) → 4 ≤ length b → announced b ≤ 1500 → 4 + announced b ≤ length b → front b ≡ whole (number (part 0 2 b)) (part 4 (4 + announced b) b)
 at_whole b h small there = grind (arith, nat_tests)
-
-pub behind_whole : (b : List ℕ) → 4 ≤ length b → announced b ≤ 1500 → 4 + announced b ≤ length b → behind b ≡ drop (4 + announced b) b
-behind_whole b h small there = let is = at_whole b h small there in rw is refl
 
 -- an item that is announced as too long
 pub at_long : (b : List ℕ) → 4 ≤ length b → 1500 < announced b → front b ≡ long
@@ -68,3 +57,11 @@ enough b =
           let asked : needed b ≡ 4 = grind (arith, nat_tests) in
           ap front (ap (λ (n : ℕ). take n b) (ap needed all ∙ asked) ∙ all)
     ]
+
+-- an item that another may stand behind is all there, and asks for all of it
+pub asked : (b : List ℕ) → goes_on (front b) ≡ true → (needed (take 4 b) ≡ 4 + announced b) × (4 + announced b ≤ length b)
+asked b h =
+    let there : (4 ≤ length b) × (announced b ≤ 1500) × (4 + announced b ≤ length b) = grind (arith, nat_tests, h) in
+    let size : length (take 4 b) ≡ 4 = length-take-le 4 b there.0 in
+    let head_of : announced (take 4 b) ≡ announced b = ap number (part_take 2 4 4 b (omega arith)) in
+    (grind (arith, nat_tests, size, head_of, there.1), there.2)

@@ -1,8 +1,10 @@
 -- How an input falls into items: socket 16 bits, length 16 bits, and a packet of that length.
-use Rattle.std.specs.Prelude.{ℕ, ◌+◌, Bool, true, false, cond, List, length, drop, ◌==◌, nat_lt}
+use Rattle.std.specs.Prelude.{ℕ, ◌+◌, Bool, true, false, cond, List, [], length, drop, Some, None, Ok, Err, Option, Result, ◌==◌, nat_lt}
+use Rattle.std.specs.Borrow.{Bor}
 use Rattle.packets.specs.Header.{part, number}
 use Rattle.report.specs.declared.items.Item.{Item}
-use Rattle.report.specs.declared.items.Item.TheVariants.{Whole, Long, Short, End}
+use Rattle.report.specs.declared.items.ItemFault.{ItemFault}
+use Rattle.report.specs.declared.items.ItemFault.TheVariants.{Long, Short}
 
 -- what stands at the front of an input
 pub data Front : Type 0 where
@@ -39,9 +41,19 @@ behind b = cond (goes_on (front b)) (drop (4 + announced b) b) b
 abbrev pub needed : List ℕ → ℕ
 needed b = cond (nat_lt (length b) 4) 4 (cond (nat_lt 1500 (announced b)) 4 (4 + announced b))
 
--- an item that was split off, by its values
-abbrev pub meant : Item → Front
-meant (Whole socket packet) = whole socket packet.now
-meant Long = long
-meant Short = short
-meant End = end
+-- what is left to read behind the first item: nothing behind a fault
+abbrev pub left : List ℕ → List ℕ
+left b = cond (goes_on (front b)) (behind b) []
+
+-- what reading gave, by its values: an item, a fault, or nothing at the end
+abbrev pub meant : Option (Result Item ItemFault) → Front
+meant None = end
+meant (Some (Ok i)) = whole i.socket i.packet.now
+meant (Some (Err Long)) = long
+meant (Some (Err Short)) = short
+
+-- the same, where what stands behind the item is given with it
+abbrev pub split_means : Result (Option (Item × Bor (List ℕ))) ItemFault → Front
+split_means (Ok None) = end
+split_means (Ok (Some p)) = meant (Some (Ok p.0))
+split_means (Err e) = meant (Some (Err e))

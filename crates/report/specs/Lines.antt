@@ -1,11 +1,15 @@
 -- The line that each item is told by.
 use Rattle.std.specs.Prelude.{ℕ, zero, suc, ◌/◌, ◌%◌, ◌^◌, cond, List, [], ◌∷◌, ◌++◌, length, Some, None, Ok, Err, codes, decimal, Option, Result}
 use Rattle.packets.specs.declared.fault.PacketFault.{PacketFault}
+use Rattle.packets.specs.declared.packet.Packet.{Packet}
 use Rattle.packets.specs.declared.packet.Ports.{Ports}
 use Rattle.packets.specs.Datagram.{Datagram, datagram, carried}
 use Rattle.packets.specs.Refusals.{number_of}
 use Rattle.report.specs.declared.lines.Line.{Line}
-use Rattle.report.specs.declared.lines.Line.TheVariants.{Read, Denied, TooLong, CutShort}
+use Rattle.report.specs.declared.lines.LineFault.{LineFault}
+use Rattle.report.specs.declared.lines.LineFault.TheVariants.{Denied, TooLong, CutShort}
+use Rattle.report.specs.declared.items.ItemFault.{ItemFault}
+use Rattle.report.specs.declared.items.ItemFault.TheVariants.{Long, Short}
 use Rattle.report.specs.Items.{Front, whole, long, short, end, front, goes_on, behind}
 
 -- what is told of an item
@@ -39,17 +43,25 @@ text (answer (Err e)) = codes "denied " ++ decimal (number_of e)
 text too_long = codes "long"
 text cut_short = codes "short"
 
+-- how a fault of an item is told
+abbrev pub fault_of : ItemFault → LineFault
+fault_of Long = TooLong
+fault_of Short = CutShort
+
+-- a fault, by its values
+abbrev pub said_of_fault : LineFault → Told
+said_of_fault (Denied e) = answer (Err e)
+said_of_fault TooLong = too_long
+said_of_fault CutShort = cut_short
+
+-- a packet or a fault, by its values
+abbrev pub outcome : Result Packet LineFault → Told
+outcome (Ok p) = answer (Ok (carried p))
+outcome (Err e) = said_of_fault e
+
 -- a line, by its values
 abbrev pub said : Line → Told
-said (Read p) = answer (Ok (carried p))
-said (Denied e) = answer (Err e)
-said TooLong = too_long
-said CutShort = cut_short
-
--- a line that may be missing, by its values
-abbrev pub said_of : Option Line → Option Told
-said_of (Some l) = Some (said l)
-said_of None = None
+said l = outcome l.0
 
 -- a line, its byte 10, and the lines behind it; where nothing is told, no line follows
 abbrev pub before : Option Told → List ℕ → List ℕ

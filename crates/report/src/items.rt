@@ -1,5 +1,6 @@
-ghost use Rattle.std.specs.Prelude.{◌≡◌, ℕ, List, take};
-ghost use Rattle.report.specs.Items.{front, behind, needed, meant, goes_on};
+ghost use Rattle.std.specs.Prelude.{◌≡◌, ℕ, List, ◌≤◌, length, take, IfOk, IfSome};
+ghost use Rattle.std.specs.Iterator.{at_most};
+ghost use Rattle.report.specs.Items.{announced, front, behind, left, needed, meant, split_means};
 
 // The head of an item: socket and length, two bytes each.
 const HEAD: usize = 4;
@@ -11,54 +12,88 @@ const LONGEST: usize = 1500;
 pub const ITEM_BYTES: usize = 1504;
 
 // The most items of one input.
-pub const MOST_ITEMS: u32 = 65536;
+pub const MOST_ITEMS: usize = 65536;
 
-// What stands at the front of an input.
-#[derive(Clone, Copy)]
-pub enum Item<'i> {
-    // a packet, and the socket that it came in by
-    Whole { socket: u16, packet: &'i [u8] },
-    // a packet that is announced as longer than 1,500 bytes
+// A packet, and the socket that it came in by.
+#[derive(Clone, Copy, PartialEq, Eq, Debug)]
+pub struct Item<'i> {
+    pub socket: u16,
+    pub packet: &'i [u8],
+}
+
+// Why an input that has not ended holds no item.
+#[derive(Clone, Copy, PartialEq, Eq, Debug)]
+pub enum ItemFault {
+    // the packet is announced as longer than 1,500 bytes
     Long,
-    // an item that ends before its length says
+    // the input ends before the item's length says
     Short,
-    // nothing more
-    End,
 }
 
-impl Item<'_> {
-    // Whether another item may stand behind this one.
-    pub fn goes_on(&self) -> bool
-        ensures { result ≡ goes_on (meant self.now) }
-    {
-        match self {
-            Item::Whole { .. } => true,
-            Item::Long | Item::Short | Item::End => false,
-        }
-    }
+// The length that an item's head gives for its packet.
+fn announced(head: &[u8]) -> usize
+    requires { 4 ≤ length head.now }
+    ensures { result ≡ announced head.now }
+{
+    usize::from(u16::from_be_bytes([head[2], head[3]]))
 }
 
-// The item at the front of `input`, and what stands behind it.
-pub fn split(input: &[u8]) -> (Item<'_>, &[u8])
-    ensures item { meant result.0 ≡ front input.now }
-    ensures rest { result.1.now ≡ behind input.now }
+// The item at the front of `input`, and what stands behind it; none where the input ends.
+pub fn split(input: &[u8]) -> Result<Option<(Item<'_>, &[u8])>, ItemFault>
+    ensures item { split_means result ≡ front input.now }
+    ensures rest { IfOk result (λ first. IfSome first (λ p. p.1.now ≡ behind input.now)) }
 {
     if input.is_empty() {
-        return (Item::End, input);
+        return Ok(None);
     }
-    if input.len() < HEAD {
-        return (Item::Short, input);
-    }
-    let length = usize::from(u16::from_be_bytes([input[2], input[3]]));
+    let (head, body) = input.split_at_checked(HEAD).ok_or(ItemFault::Short)?;
+    let length = announced(head);
     if length > LONGEST {
-        return (Item::Long, input);
+        return Err(ItemFault::Long);
     }
-    if input.len() - HEAD < length {
-        return (Item::Short, input);
+    if body.len() < length {
+        return Err(ItemFault::Short);
     }
-    let socket = u16::from_be_bytes([input[0], input[1]]);
-    let packet = &input[HEAD..HEAD + length];
-    (Item::Whole { socket, packet }, &input[HEAD + length..])
+    let socket = u16::from_be_bytes([head[0], head[1]]);
+    let (packet, rest) = body.split_at(length);
+    Ok(Some((Item { socket, packet }, rest)))
+}
+
+// The items of an input, one after another; a fault is the last.
+#[derive(Drop)]
+pub struct Items<'i> {
+    rest: &'i [u8],
+}
+
+impl<'i> Items<'i> {
+    // The items of `input`.
+    pub fn new(input: &'i [u8]) -> Items<'i>
+        ensures { result.rest.now ≡ input.now }
+    {
+        Items { rest: input }
+    }
+}
+
+impl<'i> Iterator for Items<'i> {
+    type Item = Result<Item<'i>, ItemFault>;
+
+    ghost next_gives = { λ s r t. (meant r ≡ front s.rest.now) × (t.rest.now ≡ left s.rest.now) };
+
+    ghost remaining = { λ s. at_most (length s.rest.now) };
+
+    fn next(&mut self) -> Option<Result<Item<'i>, ItemFault>> {
+        match split(self.rest) {
+            Ok(None) => None,
+            Ok(Some((item, rest))) => {
+                self.rest = rest;
+                Some(Ok(item))
+            }
+            Err(fault) => {
+                self.rest = &[];
+                Some(Err(fault))
+            }
+        }
+    }
 }
 
 // How many bytes an item takes that begins with `head`; where that is cut short or announces too much, the head's.
@@ -68,7 +103,7 @@ fn item_size(head: &[u8]) -> usize
     if head.len() < HEAD {
         return HEAD;
     }
-    let length = usize::from(u16::from_be_bytes([head[2], head[3]]));
+    let length = announced(head);
     if length > LONGEST {
         HEAD
     } else {

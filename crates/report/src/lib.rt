@@ -5,6 +5,6 @@ pub mod items;
 pub mod lines;
 pub mod stream;
 
-pub use items::{ITEM_BYTES, Item, MOST_ITEMS, split, wanted};
-pub use lines::{Line, report, tell};
+pub use items::{ITEM_BYTES, Item, ItemFault, Items, MOST_ITEMS, split, wanted};
+pub use lines::{Line, LineFault, print_report, report, tell};
 pub use stream::next_item;

@@ -1,21 +1,47 @@
-ghost use Rattle.std.specs.Prelude.{◌≡◌, IfOk, Some, string_bytes};
+ghost use Rattle.std.specs.Prelude.{◌≡◌, IfOk, OnOk, IfSome, Some, string_bytes};
+ghost use Rattle.std.specs.Io.KnownBytes.{Appends};
+ghost use Rattle.report.specs.declared.lines.LineFault.TheVariants.{Denied};
 ghost use Rattle.report.specs.Items.{meant};
-ghost use Rattle.report.specs.Lines.{dotted, ports_text, text, said, said_of, told_of, lines};
+ghost use Rattle.report.specs.Lines.{dotted, ports_text, text, said, said_of_fault, outcome, told_of, fault_of, lines};
 
-use super::items::{Item, MOST_ITEMS, split};
+use super::items::{ITEM_BYTES, Item, ItemFault, Items, MOST_ITEMS};
+use super::stream::next_item;
 use kinds::ipv4::Ipv4;
 use packets::{Packet, PacketFault, Ports};
 use std::alloc::{AllocError, Global};
-use std::fmt;
+use std::io::{Read, Write};
+use std::{fmt, io};
 
-// What is told of one item.
-#[derive(Clone, Copy)]
-pub enum Line<'p> {
-    Read(Packet<'p>),
+// Why an item tells of no packet.
+#[derive(Clone, Copy, PartialEq, Eq, Debug)]
+pub enum LineFault {
     Denied(PacketFault),
     TooLong,
     CutShort,
 }
+
+impl From<PacketFault> for LineFault {
+    ghost from_gives = { λ e r. r ≡ Denied e };
+
+    fn from(fault: PacketFault) -> LineFault {
+        LineFault::Denied(fault)
+    }
+}
+
+impl From<ItemFault> for LineFault {
+    ghost from_gives = { λ e r. r ≡ fault_of e };
+
+    fn from(fault: ItemFault) -> LineFault {
+        match fault {
+            ItemFault::Long => LineFault::TooLong,
+            ItemFault::Short => LineFault::CutShort,
+        }
+    }
+}
+
+// What is told of one item: its packet, or why there is none.
+#[derive(Clone, Copy, PartialEq, Eq, Debug)]
+pub struct Line<'p>(pub Result<Packet<'p>, LineFault>);
 
 // An address in dotted decimal.
 #[derive(Clone, Copy)]
@@ -25,11 +51,7 @@ impl fmt::Display for Dotted {
     ghost output = { λ a. Some (dotted a.0.number) };
 
     fn fmt<W: fmt::Write>(&self, f: &mut fmt::Formatter<W>) -> fmt::Result {
-        let bytes = self.0.to_bits().to_be_bytes();
-        let first = bytes[0];
-        let second = bytes[1];
-        let third = bytes[2];
-        let fourth = bytes[3];
+        let [first, second, third, fourth] = self.0.to_bits().to_be_bytes();
         write!(f, "{first}.{second}.{third}.{fourth}")
     }
 }
@@ -43,12 +65,23 @@ impl fmt::Display for PortsShown {
 
     fn fmt<W: fmt::Write>(&self, f: &mut fmt::Formatter<W>) -> fmt::Result {
         match self.0 {
-            Some(ports) => {
-                let source = ports.source;
-                let destination = ports.destination;
-                write!(f, " ports {source} {destination}")
-            }
+            Some(ports) => write!(f, " ports {} {}", ports.source, ports.destination),
             None => Ok(()),
+        }
+    }
+}
+
+impl fmt::Display for LineFault {
+    ghost output = { λ e. Some (text (said_of_fault e)) };
+
+    fn fmt<W: fmt::Write>(&self, f: &mut fmt::Formatter<W>) -> fmt::Result {
+        match self {
+            LineFault::Denied(fault) => {
+                let number = fault.number();
+                write!(f, "denied {number}")
+            }
+            LineFault::TooLong => write!(f, "long"),
+            LineFault::CutShort => write!(f, "short"),
         }
     }
 }
@@ -57,10 +90,10 @@ impl fmt::Display for Line<'_> {
     ghost output = { λ l. Some (text (said l)) };
 
     fn fmt<W: fmt::Write>(&self, f: &mut fmt::Formatter<W>) -> fmt::Result {
-        match self {
-            Line::Read(packet) => {
-                let source = Dotted(packet.source());
-                let destination = Dotted(packet.destination());
+        match self.0 {
+            Ok(packet) => {
+                let source = Dotted(packet.source);
+                let destination = Dotted(packet.destination);
                 let protocol = packet.protocol;
                 let payload = packet.payload.len();
                 let ports = PortsShown(packet.ports);
@@ -69,29 +102,23 @@ impl fmt::Display for Line<'_> {
                     "packet {source} {destination} protocol {protocol} payload {payload}{ports}"
                 )
             }
-            Line::Denied(fault) => {
-                let number = fault.number();
-                write!(f, "denied {number}")
-            }
-            Line::TooLong => write!(f, "long"),
-            Line::CutShort => write!(f, "short"),
+            Err(fault) => write!(f, "{fault}"),
         }
     }
 }
 
-// The line of an item; the end of the input has none.
-pub fn tell<'i>(item: Item<'i>) -> Option<Line<'i>>
-    ensures { said_of result ≡ told_of (meant item.entry) }
+// The packet that an item holds, or the first thing that is wrong.
+fn packet_of<'i>(item: Result<Item<'i>, ItemFault>) -> Result<Packet<'i>, LineFault>
+    ensures { Some (outcome result) ≡ told_of (meant (Some item.entry)) }
 {
-    match item {
-        Item::Whole { packet, .. } => match packets::read(packet) {
-            Ok(read) => Some(Line::Read(read)),
-            Err(fault) => Some(Line::Denied(fault)),
-        },
-        Item::Long => Some(Line::TooLong),
-        Item::Short => Some(Line::CutShort),
-        Item::End => None,
-    }
+    Ok(packets::read(item?.packet)?)
+}
+
+// The line of an item, or of what stands in its place.
+pub fn tell<'i>(item: Result<Item<'i>, ItemFault>) -> Line<'i>
+    ensures { Some (said result) ≡ told_of (meant (Some item.entry)) }
+{
+    Line(packet_of(item))
 }
 
 // The lines of a whole input, each with its line feed.
@@ -99,18 +126,27 @@ pub fn report(heap: Global, input: &[u8]) -> Result<String, AllocError>
     ensures { IfOk result (λ s. string_bytes s ≡ lines 65536 input.now) }
 {
     let mut text = String::new(heap);
-    let mut rest = input;
-    for read in 0..MOST_ITEMS {
-        let (item, behind) = split(rest);
-        let Some(line) = tell(item) else {
-            return Ok(text);
-        };
-        let shown = format!(in heap; "{line}\n")?;
-        text.push_str(shown.as_str())?;
-        if !item.goes_on() {
-            return Ok(text);
-        }
-        rest = behind;
+    for item in Items::new(input).take(MOST_ITEMS) {
+        let line = tell(item);
+        text.push_str(format!(in heap; "{line}\n")?.as_str())?;
     }
     Ok(text)
+}
+
+// Prints the lines of an input that comes by reads, each as soon as its item is read, through a buffer of one item.
+pub fn print_report<R: Read, W: Write>(input: &mut R, out: &mut W) -> io::Result<()>
+    ensures { OnOk result (IfSome (R.remaining input.old) (λ b. Appends (W.contents out.old) (W.contents out.new) (lines 65536 b))) }
+{
+    let mut bytes = [0u8; ITEM_BYTES];
+    for _ in 0..MOST_ITEMS {
+        let Some(item) = Items::new(next_item(input, &mut bytes)?).next() else {
+            break;
+        };
+        let line = tell(item);
+        writeln!(out, "{line}")?;
+        if item.is_err() {
+            break;
+        }
+    }
+    Ok(())
 }
