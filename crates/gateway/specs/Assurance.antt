@@ -1,6 +1,10 @@
 -- The assurance: what holds of every lookup after every history.
 use Rattle.std.specs.Prelude.{◌≡◌, ℕ, ◌+◌, ◌*◌, ◌≤◌, true, false, List, map, length, take, Some, None, Option}
 use Rattle.std.specs.declared.cmp.Ordering.{Ordering}
+use Rattle.kinds.specs.declared.address.Address as Address
+use Rattle.kinds.specs.declared.cost.Cost as Cost
+use Rattle.kinds.specs.declared.plain.Plain as Plain
+use Rattle.kinds.specs.declared.written.Written as Written
 use Rattle.kinds.specs.Strings.{Str}
 use Rattle.filters.specs.declared.directive.Directive.{Directive}
 use Rattle.filters.specs.Orders.{In, Each, Apart, Alike, Best}
@@ -13,7 +17,7 @@ use Rattle.grid.specs.Trails.{visited, Trailed}
 use Rattle.tries.specs.Prefixes.{any}
 use Rattle.grid.specs.Refusals.{trail_verdict}
 use Rattle.grid.specs.Steps.{named}
-use Rattle.gateway.specs.Kinds.{Kinds, BookOf, GridOf, ahead, filters_in}
+use Rattle.gateway.specs.Kinds.{Kinds, kinds_of, BookOf, GridOf, ahead, filters_in}
 use Rattle.gateway.specs.declared.gateway.Gateway.{Gateway}
 use Rattle.gateway.specs.declared.history.Call.{Call}
 use Rattle.gateway.specs.declared.history.Call.TheVariants.{Add, Withdraw, Clear, Load, Install, Build, Classify, Trail}
@@ -41,6 +45,12 @@ pub record Right {C : Type 0} (order : C → C → Ordering) (wd ws : ℕ) (F : 
   pub no_more : a.1 ≤ back_visits F d s
 
 -- ---- a book and a grid after a history
+
+-- the kinds of a gateway, by its type
+abbrev pub kinds_in : {D S C D' S' C' : Type 0} {dst : Address.Ghosts D D'} {dst_written : Written.Ghosts D D'} {dst_plain : Plain.Ghosts D'} {src : Address.Ghosts S S'} {src_written : Written.Ghosts S S'} {src_plain : Plain.Ghosts S'} {cost : Cost.Ghosts C C'} {cost_written : Written.Ghosts C C'} {cost_plain : Plain.Ghosts C'}
+    → Gateway D S C D' S' C' dst dst_written dst_plain src src_written src_plain cost cost_written cost_plain → Kinds D S C D' S' C'
+kinds_in {dst} {dst_written} {dst_plain} {src} {src_written} {src_plain} {cost} {cost_written} {cost_plain} w =
+    kinds_of dst dst_written dst_plain src src_written src_plain cost cost_written cost_plain
 
 module _ {D S C D' S' C' : Type 0} (K : Kinds D S C D' S' C') where
   -- what a lookup of two addresses answers
