@@ -30,7 +30,7 @@ pub enum Call<'c, D, S, C> {
 }
 
 // What comes of a history and a lookup behind it.
-#[derive(Clone, Copy)]
+#[derive(Clone, Copy, PartialEq, Eq, Debug)]
 pub struct Outcome {
     // the choice and the visits of classifying
     pub found: (Option<(u16, Directive)>, u32),

@@ -1,5 +1,4 @@
 // Books of one filter and of two, and node places that are one too few.
-use crate::junk;
 use crate::tell::{tell_build, tell_search};
 use crate::worked::{filter, search};
 use book::book::Book;
@@ -8,6 +7,7 @@ use filters::filter::{Filter, Prefix};
 use grid::grid::Grid;
 use kinds::ipv4::Ipv4;
 use kinds::rank::Rank;
+use samples::junk;
 
 // One filter that matches everything, and then one of destination 101 alone.
 pub(crate) fn run_single(rt: &HostRuntime) -> anyhow::Result<()> {

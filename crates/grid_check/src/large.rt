@@ -1,17 +1,37 @@
 // As many filters as a book holds.
-use crate::generate::{Generator, add_ipv4, draw_pair};
-use crate::junk;
-use crate::tally::{Tally, is_same};
 use crate::tell::tell_build;
 use book::book::Book;
+use filters::filter::Prefix;
 use filters::search::linear_search;
 use grid::grid::Grid;
 use kinds::ipv4::Ipv4;
 use kinds::rank::Rank;
+use samples::generate::{Generator, add_drawn, behind};
+use samples::junk;
+use samples::tally::Tally;
 
 const MOST: u16 = 4095;
 
 const SEARCHES: u32 = 2000;
+
+// An address that a prefix begins.
+fn draw_within(generator: &mut Generator, prefix: &Prefix<Ipv4>) -> Ipv4 {
+    let behind = behind(prefix.length as u32);
+    Ipv4::new(prefix.address.to_bits() | (generator.draw() & behind))
+}
+
+// Two addresses that the prefixes of two filters of the book begin.
+fn draw_pair(book: &Book<Ipv4, Ipv4, Rank>, generator: &mut Generator) -> (Ipv4, Ipv4) {
+    let destination = match book.get(generator.draw() as usize % 4095) {
+        Some(filter) => draw_within(generator, &filter.destination),
+        None => Ipv4::new(0),
+    };
+    let source = match book.get(generator.draw() as usize % 4095) {
+        Some(filter) => draw_within(generator, &filter.source),
+        None => Ipv4::new(0),
+    };
+    (destination, source)
+}
 
 fn compare_some(
     grid: &Grid<Ipv4, Ipv4, Rank>,
@@ -22,8 +42,9 @@ fn compare_some(
     for _ in 0..SEARCHES {
         let (destination, source) = draw_pair(book, generator);
         let found = grid.classify(&destination, &source);
-        let wanted = linear_search::<Ipv4, Ipv4, Rank>(book.records(), &destination, &source);
-        tally.count(found, is_same(found.0, wanted));
+        let best = linear_search::<Ipv4, Ipv4, Rank>(book.records(), &destination, &source);
+        let wanted = best.map(|filter| (filter.label, filter.directive));
+        tally.count(found, found.0 == wanted);
     }
     tally
 }
@@ -34,9 +55,9 @@ pub(crate) fn run(rt: &HostRuntime) -> anyhow::Result<()> {
     let mut book = Book::new(places.as_mut_slice());
     let mut grid = Grid::new(nodes.as_mut_slice());
     let mut generator = Generator::new(2);
-    add_ipv4(&mut book, &mut generator, MOST);
+    add_drawn(&mut book, &mut generator, MOST);
     tell_build(rt, "4095 filters", &mut grid, &book)?;
     let tally = compare_some(&grid, &book, &mut generator);
-    println!(rt; "with linear search: {tally}")?;
+    println!(rt; "with linear search: {} {tally}", tally.compared())?;
     Ok(())
 }

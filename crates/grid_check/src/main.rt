@@ -2,13 +2,9 @@
 #![tactic(auto)]
 
 mod edges;
-mod generate;
-mod junk;
 mod large;
 mod reuse;
-mod tally;
 mod tell;
-mod tiny;
 mod worked;
 
 fn main(rt: HostRuntime) -> anyhow::Result<()> {

@@ -1,63 +1,51 @@
 // A long table and then a short one in the same memory, against the short one in fresh memory, on every pair of addresses.
-use crate::generate::{Generator, add_tiny};
-use crate::junk;
-use crate::tally::{Tally, is_same};
 use crate::tell::tell_build;
-use crate::tiny::Tiny;
 use book::book::Book;
+use filters::directive::Directive;
 use filters::search::linear_search;
 use grid::grid::Grid;
 use kinds::address::Address;
 use kinds::rank::Rank;
+use samples::generate::{Generator, add_drawn};
+use samples::junk;
+use samples::tally::Tally;
+use samples::tiny::Tiny;
 
 const LONG: u16 = 120;
 
 const SHORT: u16 = 12;
 
-// Compares the searches of one destination with linear search.
-fn compare_linear(
-    tally: &mut Tally,
+// Looks every pair of addresses up in a grid, and asks whether each answer is the one that is wanted.
+fn compare_all<F: Fn(&Tiny, &Tiny, (Option<(u16, Directive)>, u32)) -> bool>(
     grid: &Grid<Tiny, Tiny, Rank>,
-    book: &Book<Tiny, Tiny, Rank>,
-    destination: &Tiny,
-) {
-    for low in 0..=255u8 {
-        let source = Tiny::of(low);
-        let found = grid.classify(destination, &source);
-        let wanted = linear_search::<Tiny, Tiny, Rank>(book.records(), destination, &source);
-        tally.count(found, is_same(found.0, wanted));
-    }
-}
-
-fn compare_all_linear(grid: &Grid<Tiny, Tiny, Rank>, book: &Book<Tiny, Tiny, Rank>) -> Tally {
+    is_wanted: F,
+) -> Tally
+    requires { F.IsAlwaysCallable is_wanted }
+{
     let mut tally = Tally::new();
-    for high in 0..=255u8 {
-        compare_linear(&mut tally, grid, book, &Tiny::of(high));
+    for pair in 0..=u16::MAX {
+        let destination = Tiny::of((pair >> 8) as u8);
+        let source = Tiny::of((pair & 0xff) as u8);
+        let found = grid.classify(&destination, &source);
+        let wanted = is_wanted(&destination, &source, found);
+        tally.count(found, wanted);
     }
     tally
 }
 
-// Compares the searches of one destination in two grids: choice, directive and visits.
-fn compare_grids(
-    tally: &mut Tally,
-    grid: &Grid<Tiny, Tiny, Rank>,
-    other: &Grid<Tiny, Tiny, Rank>,
-    destination: &Tiny,
-) {
-    for low in 0..=255u8 {
-        let source = Tiny::of(low);
-        let found = grid.classify(destination, &source);
-        let wanted = other.classify(destination, &source);
-        tally.count(found, found == wanted);
-    }
+// Compares the choices with those of linear search.
+fn compare_linear(grid: &Grid<Tiny, Tiny, Rank>, book: &Book<Tiny, Tiny, Rank>) -> Tally {
+    compare_all(grid, |destination, source, found| {
+        let best = linear_search::<Tiny, Tiny, Rank>(book.records(), destination, source);
+        found.0 == best.map(|filter| (filter.label, filter.directive))
+    })
 }
 
-fn compare_all_grids(grid: &Grid<Tiny, Tiny, Rank>, other: &Grid<Tiny, Tiny, Rank>) -> Tally {
-    let mut tally = Tally::new();
-    for high in 0..=255u8 {
-        compare_grids(&mut tally, grid, other, &Tiny::of(high));
-    }
-    tally
+// Compares choices and visits with those of another grid.
+fn compare_grids(grid: &Grid<Tiny, Tiny, Rank>, other: &Grid<Tiny, Tiny, Rank>) -> Tally {
+    compare_all(grid, |destination, source, found| {
+        found == other.classify(destination, source)
+    })
 }
 
 // Builds the book's grid in fresh memory and compares it with the one that is there.
@@ -69,8 +57,8 @@ fn compare_fresh(
     let mut nodes = vec![in rt.alloc(); junk::node(); 205]?;
     let mut fresh = Grid::new(nodes.as_mut_slice());
     tell_build(rt, "the short table in fresh memory", &mut fresh, book)?;
-    let tally = compare_all_grids(grid, &fresh);
-    println!(rt; "with the fresh grid: {tally}")?;
+    let tally = compare_grids(grid, &fresh);
+    println!(rt; "with the fresh grid: {} {tally}", tally.compared())?;
     Ok(())
 }
 
@@ -80,14 +68,14 @@ pub(crate) fn run(rt: &HostRuntime) -> anyhow::Result<()> {
     let mut book = Book::new(places.as_mut_slice());
     let mut grid = Grid::new(nodes.as_mut_slice());
     let mut generator = Generator::new(1);
-    add_tiny(&mut book, &mut generator, LONG);
+    add_drawn(&mut book, &mut generator, LONG);
     tell_build(rt, "a long table", &mut grid, &book)?;
-    let long = compare_all_linear(&grid, &book);
-    println!(rt; "with linear search: {long}")?;
+    let long = compare_linear(&grid, &book);
+    println!(rt; "with linear search: {} {long}", long.compared())?;
     book.clear();
-    add_tiny(&mut book, &mut generator, SHORT);
+    add_drawn(&mut book, &mut generator, SHORT);
     tell_build(rt, "a short table in the same memory", &mut grid, &book)?;
-    let short = compare_all_linear(&grid, &book);
-    println!(rt; "with linear search: {short}")?;
+    let short = compare_linear(&grid, &book);
+    println!(rt; "with linear search: {} {short}", short.compared())?;
     compare_fresh(rt, &grid, &book)
 }

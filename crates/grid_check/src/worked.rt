@@ -1,5 +1,4 @@
 // The book of five filters that was worked by hand, in memory full of junk.
-use crate::junk;
 use crate::tell::{tell_build, tell_search};
 use book::book::Book;
 use filters::directive::Directive;
@@ -8,6 +7,7 @@ use grid::grid::Grid;
 use kinds::address::Address;
 use kinds::rank::Rank;
 use kinds::socket::Socket;
+use samples::junk;
 use std::io;
 
 // A filter of two prefixes, each by its bits, which stand highest, and its length.

@@ -1,11 +1,11 @@
 // The two histories: a long table and then a short one, and the short one alone.
-use crate::tally::Tally;
 use filters::filter::Record;
 use gateway::history::{Call, replay_two};
 use grid::node::Node;
 use kinds::address::Address;
 use kinds::cost::Cost;
 use samples::address::address;
+use samples::tally::Tally;
 use std::alloc::Global;
 
 // A history of tables that are installed one after another.
@@ -47,7 +47,7 @@ fn compare<D: Address, S: Address, C: Cost>(
             &destination,
             &source,
         );
-        tally.count(first, second);
+        tally.count(first.found, first == second);
     }
     tally
 }

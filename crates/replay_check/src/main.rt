@@ -2,16 +2,14 @@
 // one alone; every pair of addresses of a kind of 8 bits is looked up behind both histories, and each lookup is compared.
 #![tactic(auto)]
 
-mod drawn;
 mod histories;
-mod tally;
 
-use crate::drawn::write_drawn;
 use crate::histories::compare_tables;
-use crate::tally::Tally;
+use book::book::Book;
 use kinds::rank::Rank;
-use samples::generate::Generator;
+use samples::generate::{Generator, add_drawn};
 use samples::junk;
+use samples::tally::Tally;
 use samples::tiny::Tiny;
 use std::alloc::Global;
 
@@ -49,16 +47,25 @@ fn compare_all(heap: Global, long: &[u8], short: &[u8]) -> anyhow::Result<Tally>
     )
 }
 
+// The table of so many filters that are drawn; no byte where it is too long to be written.
+fn draw_table(heap: Global, generator: &mut Generator, count: u16) -> anyhow::Result<Vec<u8>> {
+    let mut places = [junk::record(0u8); PLACES];
+    let mut book = Book::<Tiny, Tiny, Rank>::new(&mut places);
+    add_drawn(&mut book, generator, count);
+    let mut table = vec![in heap; 0u8; 1024]?;
+    let size = book.write(table.as_mut_slice()).unwrap_or(0);
+    table.truncate(size);
+    Ok(table)
+}
+
 fn main(rt: HostRuntime) -> anyhow::Result<()> {
     let mut generator = Generator::new(1);
-    let mut long = [0u8; 1024];
-    let mut short = [0u8; 1024];
-    let long_size = write_drawn(&mut generator, LONG, &mut long);
-    let short_size = write_drawn(&mut generator, SHORT, &mut short);
+    let long = draw_table(rt.alloc(), &mut generator, LONG)?;
+    let short = draw_table(rt.alloc(), &mut generator, SHORT)?;
     println!(rt;
         "a long table of {LONG} filters and then a short one of {SHORT}, against the short one alone"
     )?;
-    let tally = compare_all(rt.alloc(), &long[..long_size], &short[..short_size])?;
-    println!(rt; "{tally}")?;
+    let tally = compare_all(rt.alloc(), long.as_slice(), short.as_slice())?;
+    println!(rt; "{} lookups {tally}", tally.compared())?;
     Ok(())
 }

@@ -4,4 +4,5 @@
 pub mod address;
 pub mod generate;
 pub mod junk;
+pub mod tally;
 pub mod tiny;

@@ -1,8 +1,8 @@
 // How many lookups were compared and how many of them differed, and the sums of what they answered.
-use gateway::history::Outcome;
+use filters::directive::Directive;
 use std::fmt;
 
-#[derive(Clone, Copy)]
+#[derive(Clone, Copy, PartialEq, Eq, Debug)]
 pub struct Tally {
     compared: u32,
     differed: u32,
@@ -10,13 +10,8 @@ pub struct Tally {
     visits: u64,
 }
 
-// Whether two outcomes are the same: choice and visits, of classifying and of trailing, and the nodes of the grid.
-fn is_same(first: Outcome, second: Outcome) -> bool {
-    first.found == second.found && first.trailed == second.trailed && first.nodes == second.nodes
-}
-
 impl Tally {
-    pub(crate) fn new() -> Tally {
+    pub fn new() -> Tally {
         Tally {
             compared: 0,
             differed: 0,
@@ -25,11 +20,11 @@ impl Tally {
         }
     }
 
-    // Counts a lookup behind two histories.
-    pub(crate) fn count(&mut self, first: Outcome, second: Outcome) {
-        let (choice, visits) = first.found;
+    // Counts a lookup by its answer, and by whether that is what was wanted.
+    pub fn count(&mut self, answer: (Option<(u16, Directive)>, u32), wanted: bool) {
+        let (choice, visits) = answer;
         self.compared = self.compared.saturating_add(1);
-        if !is_same(first, second) {
+        if !wanted {
             self.differed = self.differed.saturating_add(1);
         }
         if let Some((label, _)) = choice {
@@ -37,19 +32,20 @@ impl Tally {
         }
         self.visits = self.visits.saturating_add(visits as u64);
     }
+
+    // How many lookups were compared.
+    pub fn compared(&self) -> u32 {
+        self.compared
+    }
 }
 
+// What is told behind the number of lookups.
 impl fmt::Display for Tally {
     fn fmt<W: fmt::Write>(&self, f: &mut fmt::Formatter<W>) -> fmt::Result {
-        let Tally {
-            compared,
-            differed,
-            labels,
-            visits,
-        } = *self;
         write!(
             f,
-            "{compared} lookups compared, {differed} differed (labels {labels}, visits {visits})"
+            "compared, {} differed (labels {}, visits {})",
+            self.differed, self.labels, self.visits
         )
     }
 }
