@@ -134,6 +134,7 @@ pub fn report(heap: Global, input: &[u8]) -> Result<String, AllocError>
 }
 
 // Prints the lines of an input that comes by reads, each as soon as its item is read, through a buffer of one item.
+// No iterator gives these items: each lies in the buffer that the next one is read into.
 pub fn print_report<R: Read, W: Write>(input: &mut R, out: &mut W) -> io::Result<()>
     ensures { OnOk result (IfSome (R.remaining input.old) (λ b. Appends (W.contents out.old) (W.contents out.new) (lines 65536 b))) }
 {
