@@ -6,8 +6,8 @@ use Rattle.kinds.specs.Strings.{Str, bits}
 use Rattle.filters.specs.declared.filter.Record.{Record}
 use Rattle.filters.specs.Meaning.{held, held_at, rules}
 use Rattle.filters.specs.Rules.{Rule}
-use Rattle.tables.specs.declared.fault.TableFault.{TableFault}
-use Rattle.tables.specs.declared.fault.TableFault.TheVariants.{Short, Kind as OtherKind, Length, Full}
+use Rattle.tables.specs.declared.fault.HeadFault.{HeadFault}
+use Rattle.tables.specs.declared.fault.HeadFault.TheVariants.{Short, Kind as OtherKind, Length, Full}
 use Rattle.tables.specs.Format.{Kind, Entry, entry_of, decode, filter_count, head_fields, table_size}
 use Rattle.tables.specs.Laws.{distinct}
 use Rattle.tables.specs.Memory.{Labelled}
@@ -31,7 +31,7 @@ capacity_same D S C pass n bytes =
     ]
     in
     ap
-    (λ (t : Bool). behind_head (cond (ltb (length bytes) 4) (Err Short) (cond (same_kinds D S C (head_fields bytes)) (cond (eqb (length bytes) (table_size D S C (filter_count bytes))) (cond {A = Result ℕ TableFault} t (Err Full) (Ok (filter_count bytes))) (Err Length)) (Err OtherKind))) (entries_verdict D S C pass [] (decode D S C bytes)))
+    (λ (t : Bool). behind_head (cond (ltb (length bytes) 4) (Err Short) (cond (same_kinds D S C (head_fields bytes)) (cond (eqb (length bytes) (table_size D S C (filter_count bytes))) (cond {A = Result ℕ HeadFault} t (Err Full) (Ok (filter_count bytes))) (Err Length)) (Err OtherKind))) (entries_verdict D S C pass [] (decode D S C bytes)))
     e
 
 -- labels that are not 0 and stand once are apart

@@ -4,7 +4,7 @@ use Rattle.std.proofs.lemmas.List.{at_drop_more, at_drop_all, map_more, length-m
 use Rattle.tables.specs.declared.fault.RecordFault.{RecordFault}
 use Rattle.tables.specs.declared.fault.InRecord.{InRecord}
 use Rattle.tables.specs.declared.fault.LoadFault.{LoadFault}
-use Rattle.tables.specs.Faults.{in_record}
+use Rattle.tables.specs.declared.fault.LoadFault.TheVariants.{Record}
 use Rattle.tables.specs.Format.{Kind, Entry, record_size, table_size, decode_record, decode_records}
 use Rattle.tables.specs.Verdict.{has, labels, counted, onward, entry_verdict, entries_verdict}
 use Rattle.tables.proofs.Tables.{row_below, length_records, get_d_records, take_records, record_start}
@@ -45,9 +45,9 @@ onward_ok k m (Err e) x rest h = let z : ◌≡◌ {A = ℕ} 0 1 = cc in absurd 
 pub onward_passed : (m : ℕ) (v : Result (Unit {0}) RecordFault) (rest : Result ℕ LoadFault) → v ≡ Ok tt → onward m v rest ≡ rest
 onward_passed m v rest e = ap (λ (z : Result (Unit {0}) RecordFault). onward m z rest) e
 
-pub onward_err : (k : ℕ) (v : Result (Unit {0}) RecordFault) (e : InRecord) (rest : Result ℕ LoadFault) → Err e ≡ counted k v → Err (in_record e) ≡ onward k v rest
+pub onward_err : (k : ℕ) (v : Result (Unit {0}) RecordFault) (e : InRecord) (rest : Result ℕ LoadFault) → Err e ≡ counted k v → Err (Record e) ≡ onward k v rest
 onward_err k (Ok y) e rest h = let z : ◌≡◌ {A = ℕ} 0 1 = cc in absurd (omega arith)
-onward_err k (Err f) e rest h = let p : e ≡ record { «record» = k; fault = f } = cc in ap (λ (z : InRecord). Err (in_record z)) p
+onward_err k (Err f) e rest h = let p : e ≡ record { «record» = k; fault = f } = cc in ap (λ (z : InRecord). Err (Record z)) p
 
 module _ (D S C : Kind) (pass : ℕ → Bool) where
   -- one entry on

@@ -7,12 +7,12 @@ use Rattle.filters.specs.declared.fault.FilterFault.TheVariants.{ZeroLabel}
 use Rattle.filters.specs.Refusals.{body_verdict, then_used}
 use Rattle.tables.specs.declared.fault.RecordFault.{RecordFault}
 use Rattle.tables.specs.declared.fault.RecordFault.TheVariants.{Filter, Pattern}
-use Rattle.tables.specs.declared.fault.TableFault.{TableFault}
-use Rattle.tables.specs.declared.fault.TableFault.TheVariants.{Short, Kind as OtherKind, Length, Full}
+use Rattle.tables.specs.declared.fault.HeadFault.{HeadFault}
+use Rattle.tables.specs.declared.fault.HeadFault.TheVariants.{Short, Kind as OtherKind, Length, Full}
 use Rattle.tables.specs.declared.fault.InRecord.{InRecord}
 use Rattle.tables.specs.declared.fault.LoadFault.{LoadFault}
+use Rattle.tables.specs.declared.fault.LoadFault.TheVariants.{Head, Record}
 use Rattle.tables.specs.Bytes.{nth}
-use Rattle.tables.specs.Faults.{in_head, in_record}
 use Rattle.tables.specs.Format.{Kind, Entry, head_fields, filter_count, table_size, decode}
 
 -- `lawful` tells the numbers of lawful patterns from those of the others
@@ -31,12 +31,12 @@ has n (m ∷ ms) = m == n || has n ms
 
 -- what follows a record: its refusal, with the record counted from 1, or what the rest answers
 abbrev pub onward : ℕ → Result (Unit {0}) RecordFault → Result ℕ LoadFault → Result ℕ LoadFault
-onward i (Err e) rest = Err (in_record (record { «record» = i; fault = e }))
+onward i (Err e) rest = Err (Record (record { «record» = i; fault = e }))
 onward i (Ok x) rest = rest
 
 -- what follows the head: its refusal, or what the records answer
-abbrev pub behind_head : Result ℕ TableFault → Result ℕ LoadFault → Result ℕ LoadFault
-behind_head (Err e) rest = Err (in_head e)
+abbrev pub behind_head : Result ℕ HeadFault → Result ℕ LoadFault → Result ℕ LoadFault
+behind_head (Err e) rest = Err (Head e)
 behind_head (Ok n) rest = rest
 
 -- a record's answer, with the record counted from 1
@@ -55,7 +55,7 @@ module _ (D S C : Kind) where
   same_kinds fs = (nth fs 0) == 1 && ((nth fs 1) == D.code && ((nth fs 2) == S.code && (nth fs 3) == C.code))
 
   -- the first refusal of a table by its head and its length, where `capacity` filters have room, or how many filters it has
-  abbrev pub head_verdict : ℕ → List ℕ → Result ℕ TableFault
+  abbrev pub head_verdict : ℕ → List ℕ → Result ℕ HeadFault
   head_verdict capacity bytes =
       cond (nat_lt (length bytes) 4) (Err Short)
       (cond (same_kinds (head_fields bytes))

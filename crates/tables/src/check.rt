@@ -6,7 +6,7 @@ ghost use Rattle.filters.specs.Refusals.{body_verdict};
 ghost use Rattle.tables.specs.Format.{kind, entry_of, filter_count, table_size, record_size, decode_record, decode_records};
 ghost use Rattle.tables.specs.Verdict.{Tells, has, labels, counted, entry_verdict, entries_verdict, head_verdict, table_verdict};
 
-use crate::fault::{InRecord, LoadFault, RecordFault, TableFault};
+use crate::fault::{HeadFault, InRecord, LoadFault, RecordFault};
 use crate::field::Head;
 use crate::number::number_at;
 use crate::record::{record_at, record_size};
@@ -75,13 +75,10 @@ fn in_record(i: usize, answer: Result<(), RecordFault>) -> Result<(), InRecord>
     requires { i < 4095 }
     ensures { result ≡ counted (i + 1) answer }
 {
-    match answer {
-        Ok(()) => Ok(()),
-        Err(fault) => Err(InRecord {
-            record: i as u16 + 1,
-            fault,
-        }),
-    }
+    answer.map_err(|fault| InRecord {
+        record: i as u16 + 1,
+        fault,
+    })
 }
 
 // The refusal of the record at a place, counted from 0.
@@ -114,11 +111,11 @@ fn check_records<D: Address, S: Address, C: Cost>(
 fn check_head<D: Address, S: Address, C: Cost>(
     bytes: &[u8],
     capacity: usize,
-) -> Result<usize, TableFault>
+) -> Result<usize, HeadFault>
     ensures { result ≡ head_verdict (kind D.Written.code D.Written.size) (kind S.Written.code S.Written.size) (kind C.Written.code C.Written.size) capacity bytes.now }
 {
     if bytes.len() < 4 {
-        return Err(TableFault::Short);
+        return Err(HeadFault::Short);
     }
     let head = Head::unpack(number_at(bytes, 0, 4) as u32);
     if head.edition != 1
@@ -126,14 +123,14 @@ fn check_head<D: Address, S: Address, C: Cost>(
         || head.source != S::kind()
         || head.cost != C::kind()
     {
-        return Err(TableFault::Kind);
+        return Err(HeadFault::Kind);
     }
     let count = head.count as usize;
     if bytes.len() != 4 + count * record_size::<D, S, C>() {
-        return Err(TableFault::Length);
+        return Err(HeadFault::Length);
     }
     if count > capacity {
-        return Err(TableFault::Full);
+        return Err(HeadFault::Full);
     }
     Ok(count)
 }
