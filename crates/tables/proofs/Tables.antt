@@ -1,6 +1,7 @@
 -- The records of a table, by their places.
 use Rattle.std.proofs.Common.{◌≡◌, ℕ, zero, suc, ◌+◌, ◌*◌, ◌<◌, ◌≤◌, Bool, false, ◌||◌, eqb, List, [], ◌∷◌, ◌++◌, length, get_or, take, drop, sym, refl, ap, ◌∙◌, mul-le-mul_right, suc-mul, zero-mul, arith}
 use Rattle.std.proofs.lemmas.List.{drop-drop, get_or-map, length-map, at_drop_more, at_drop_all, take_more}
+use Rattle.std.specs.List.{list_any}
 use Rattle.tables.specs.Bytes.{word}
 use Rattle.tables.specs.Format.{Kind, Entry, record_size, decode_record, decode_records}
 use Rattle.tables.specs.Verdict.{has, labels}
@@ -63,6 +64,11 @@ module _ (D S C : Kind) where
       ∙ take_more rs n d (omega (arith, length_records (n + 1) xs))
       ∙ ap (λ (z : List Entry). z ++ get_or rs n d ∷ []) (take_records (n + 1) n xs (omega arith))
       ∙ ap (λ (z : Entry). decode_records D S C n xs ++ z ∷ []) (get_d_records (n + 1) xs n d (omega arith))
+
+-- looking for a label among records
+pub has_any : (n : ℕ) (rs : List Entry) → list_any (λ r. eqb r.label n) rs ≡ has n (labels rs)
+has_any n [] = refl
+has_any n (r ∷ rs) = ap (λ (b : Bool). eqb r.label n || b) (has_any n rs)
 
 -- looking for a number in a list, place by place
 pub has_more : (n : ℕ) (ms : List ℕ) (i m : ℕ) (b : Bool) → i < length ms → get_or ms i 0 ≡ m → eqb m n ≡ b → has n (drop i ms) ≡ (b || has n (drop (i + 1) ms))

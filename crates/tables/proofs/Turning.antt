@@ -1,5 +1,5 @@
 -- Loading and writing one after the other.
-use Rattle.std.proofs.Common.{◌≡◌, ℕ, ◌-◌, ◌≤◌, Bool, true, false, cond, ◌||◌, ltb, List, [], ◌∷◌, ◌++◌, map, length, take, drop, Ok, Err, Result, sym, refl, ap, ◌∙◌, arith}
+use Rattle.std.proofs.Common.{◌≡◌, ℕ, ◌≤◌, Bool, true, false, cond, ◌||◌, ltb, List, [], ◌∷◌, ◌++◌, map, length, take, drop, Ok, Err, Result, sym, refl, ap, ◌∙◌, arith}
 use Rattle.std.specs.Int.Digits.{AllBelowBase}
 use Rattle.std.proofs.lemmas.List.{length-map, length-take-le, take_at}
 use Rattle.filters.specs.declared.filter.Record.{Record}
@@ -50,10 +50,8 @@ loaded_count D S C entry bytes n after h e =
 
 -- ---- writing, then loading
 -- the part of the buffer that was written
-pub part_is : (n : ℕ) (table before after : List ℕ) → after ≡ table ++ drop n before → n ≡ length table → take (n - 0) after ≡ table
-part_is n table before after e l =
-    let z : n - 0 ≡ n = omega arith in
-    ap (λ (k : ℕ). take k after) z ∙ ap (take n) e ∙ take_at table (drop n before) n (sym l)
+pub part_is : (n : ℕ) (table before after : List ℕ) → after ≡ table ++ drop n before → n ≡ length table → take n after ≡ table
+part_is n table before after e l = ap (take n) e ∙ take_at table (drop n before) n (sym l)
 
 pub wrote_length : (D S C : Kind) {R : Type 0} (entry : R → Entry) (rs : List R) (room n : ℕ) → Ok n ≡ write_verdict D S C (length rs) room → n ≡ length (encode D S C (map entry rs))
 wrote_length D S C entry rs room n h =

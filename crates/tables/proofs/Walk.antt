@@ -5,9 +5,9 @@ use Rattle.tables.specs.declared.fault.RecordFault.{RecordFault}
 use Rattle.tables.specs.declared.fault.InRecord.{InRecord}
 use Rattle.tables.specs.declared.fault.LoadFault.{LoadFault}
 use Rattle.tables.specs.declared.fault.LoadFault.TheVariants.{Record}
-use Rattle.tables.specs.Format.{Kind, Entry, record_size, table_size, decode_record, decode_records}
+use Rattle.tables.specs.Format.{Kind, Entry, record_size, table_size, decode_record}
 use Rattle.tables.specs.Verdict.{has, labels, counted, onward, entry_verdict, entries_verdict}
-use Rattle.tables.proofs.Tables.{row_below, length_records, get_d_records, take_records, record_start}
+use Rattle.tables.proofs.Tables.{row_below}
 
 -- the next record is inside the table
 pub next_fits : (D S C : Kind) (i n len : ℕ) → i < n → table_size D S C n ≤ len → table_size D S C (i + 1) ≤ len
@@ -66,16 +66,14 @@ module _ (D S C : Kind) (pass : ℕ → Bool) where
       at_drop_all (entries_verdict D S C pass (labels (take i rs))) rs i (omega arith)
       ∙ ap Ok (omega (arith, length-map (take i rs) (λ (r : Entry). r.label), length-take-le i rs (omega arith)))
 
-  -- one record on
-  pub records_more : (bytes : List ℕ) (n i : ℕ) → i < n → entries_verdict D S C pass (labels (take i (decode_records D S C n (drop 4 bytes)))) (drop i (decode_records D S C n (drop 4 bytes))) ≡ onward (i + 1) (entry_verdict D S C pass (has (decode_record D S C (drop (4 + i * record_size D S C) bytes)).label (labels (decode_records D S C i (drop 4 bytes)))) (decode_record D S C (drop (4 + i * record_size D S C) bytes))) (entries_verdict D S C pass (labels (take (i + 1) (decode_records D S C n (drop 4 bytes)))) (drop (i + 1) (decode_records D S C n (drop 4 bytes))))
-  records_more bytes n i h =
-      let rs = decode_records D S C n (drop 4 bytes) in
-      let rest = entries_verdict D S C pass (labels (take (i + 1) rs)) (drop (i + 1) rs) in
-      let d = decode_record D S C bytes in
-      let e : get_or rs i d ≡ decode_record D S C (drop (4 + i * record_size D S C) bytes) = get_d_records D S C n (drop 4 bytes) i d h ∙ ap (decode_record D S C) (sym (record_start D S C bytes i (record_size D S C) refl)) in
-      entries_more rs i d (omega (arith, length_records D S C n (drop 4 bytes)))
-      ∙ ap (λ (s : List Entry). onward (i + 1) (entry_verdict D S C pass (has (get_or rs i d).label (labels s)) (get_or rs i d)) rest) (take_records D S C n i (drop 4 bytes) (omega arith))
-      ∙ ap (λ (r : Entry). onward (i + 1) (entry_verdict D S C pass (has r.label (labels (decode_records D S C i (drop 4 bytes)))) r) rest) e
-
-  pub records_all : (bytes : List ℕ) (n i : ℕ) → i ≡ n → entries_verdict D S C pass (labels (take i (decode_records D S C n (drop 4 bytes)))) (drop i (decode_records D S C n (drop 4 bytes))) ≡ Ok n
-  records_all bytes n i e = entries_all (decode_records D S C n (drop 4 bytes)) i (omega (arith, length_records D S C n (drop 4 bytes))) ∙ ap Ok e
+  -- one record on, by what was answered of it
+  pub one_more : (es : List Entry) (n i m : ℕ) (r d : Entry) (used : Bool) (v : Result (Unit {0}) RecordFault) → i ≡ n → m ≡ i + 1 → i < length es → d ≡ get_or es i d → r ≡ d → used ≡ has r.label (labels (take i es)) → v ≡ entry_verdict D S C pass used r → entries_verdict D S C pass (labels (take n es)) (drop n es) ≡ onward (i + 1) v (entries_verdict D S C pass (labels (take m es)) (drop m es))
+  one_more es n i m r d used v e f h at same u k =
+      let seen = labels (take i es) in
+      let rest = λ (j : ℕ). entries_verdict D S C pass (labels (take j es)) (drop j es) in
+      ap rest (sym e)
+      ∙ entries_more es i d h
+      ∙ ap (λ (z : Entry). onward (i + 1) (entry_verdict D S C pass (has z.label seen) z) (rest (i + 1))) (sym (same ∙ at))
+      ∙ ap (λ (b : Bool). onward (i + 1) (entry_verdict D S C pass b r) (rest (i + 1))) (sym u)
+      ∙ ap (λ (z : Result (Unit {0}) RecordFault). onward (i + 1) z (rest (i + 1))) (sym k)
+      ∙ ap (λ (j : ℕ). onward (i + 1) v (rest j)) (sym f)

@@ -39,6 +39,11 @@ abbrev pub behind_head : Result ℕ HeadFault → Result ℕ LoadFault → Resul
 behind_head (Err e) rest = Err (Head e)
 behind_head (Ok n) rest = rest
 
+-- what follows n records that are checked one by one: their first refusal, or how many they are
+abbrev pub behind_records : ℕ → Result (Unit {0}) InRecord → Result ℕ LoadFault
+behind_records n (Err e) = Err (Record e)
+behind_records n (Ok x) = Ok n
+
 -- a record's answer, with the record counted from 1
 abbrev pub counted : ℕ → Result (Unit {0}) RecordFault → Result (Unit {0}) InRecord
 counted i (Err e) = Err (record { «record» = i; fault = e })

@@ -1,4 +1,4 @@
-use Rattle.std.proofs.Common.{◌≡◌, ℕ, ◌<◌, ◌≤◌, true, map, length, Ok, Err, sym, refl, ap, ◌∙◌, subst, arith}
+use Rattle.std.proofs.Common.{ℕ, ◌<◌, ◌≤◌, true, length, take, Ok, Err, sym, refl, ap, ◌∙◌, subst, arith}
 use Rattle.std.proofs.ByRecursion.{All-from_get_or}
 use Rattle.std.proofs.lemmas.List.{length-take-le}
 use Rattle.std.proofs.lemmas.Result.{err_from_is_err_and}
@@ -24,7 +24,7 @@ returns-in_err-length g c =
     let e = p.1 ∙ ap Err p.2 in
     let m = c.in_ok-count.ensures.memory in
     let le : c.in_ok-count.count ≤ length c.load_table.new.places = omega (arith, m.0, c.load_table.auto.places) in
-    let n : length c.front.result.now ≡ c.in_ok-count.count = ap length c.front.ensures ∙ length-take-le c.in_ok-count.count c.load_table.new.places le in
+    let n = length-take-le c.in_ok-count.count c.load_table.new.places le in
     let k = loaded_count (kind g.D.Written.code g.D.Written.size) (kind g.S.Written.code g.S.Written.size) (kind g.C.Written.code g.C.Written.size) (entry_of g.D.Written.number g.S.Written.number g.C.Written.number) c.args.bytes.now c.in_ok-count.count c.load_table.new.places le m.1 in
     let placed = subst (λ (j : ℕ). Loaded (entry_of g.D.Written.number g.S.Written.number g.C.Written.number) (decode (kind g.D.Written.code g.D.Written.size) (kind g.S.Written.code g.S.Written.size) (kind g.C.Written.code g.C.Written.size) c.args.bytes.now) c.args.places.now c.load_table.new.places (Ok j)) k m in
     record {
@@ -37,11 +37,11 @@ pub returns : goal.returns
 returns g c =
     let m = c.in_ok-count.ensures.memory in
     let le : c.in_ok-count.count ≤ length c.load_table.new.places = omega (arith, m.0, c.load_table.auto.places) in
-    let n : length c.front.result.now ≡ c.in_ok-count.count = ap length c.front.ensures ∙ length-take-le c.in_ok-count.count c.load_table.new.places le in
+    let n = length-take-le c.in_ok-count.count c.load_table.new.places le in
     let k = loaded_count (kind g.D.Written.code g.D.Written.size) (kind g.S.Written.code g.S.Written.size) (kind g.C.Written.code g.C.Written.size) (entry_of g.D.Written.number g.S.Written.number g.C.Written.number) c.args.bytes.now c.in_ok-count.count c.load_table.new.places le m.1 in
     let placed = subst (λ (j : ℕ). Loaded (entry_of g.D.Written.number g.S.Written.number g.C.Written.number) (decode (kind g.D.Written.code g.D.Written.size) (kind g.S.Written.code g.S.Written.size) (kind g.C.Written.code g.C.Written.size) c.args.bytes.now) c.args.places.now c.load_table.new.places (Ok j)) k m in
     record {
       answer = λ pass tells. turn_on _ (λ (j : ℕ). write_verdict (kind g.D.Written.code g.D.Written.size) (kind g.S.Written.code g.S.Written.size) (kind g.C.Written.code g.C.Written.size) j (length c.args.buffer.now)) _ _ (c.in_ok-count.ensures.answer pass tells) (c.in_ok-length.ensures.answer ∙ ap (λ (j : ℕ). write_verdict (kind g.D.Written.code g.D.Written.size) (kind g.S.Written.code g.S.Written.size) (kind g.C.Written.code g.C.Written.size) j (length c.args.buffer.now)) n);
       places = placed;
-      same = rewritten (kind g.D.Written.code g.D.Written.size) (kind g.S.Written.code g.S.Written.size) (kind g.C.Written.code g.C.Written.size) (λ _. true) (entry_of g.D.Written.number g.S.Written.number g.C.Written.number) (length c.args.places.now) c.in_ok-count.count c.in_ok-length.length (length c.args.buffer.now) c.args.bytes.now c.args.buffer.now c.write_table.new.buffer c.front.result.now (All-from_get_or (λ (b : ℕ). b < 256) c.args.bytes.now 0 (λ i h. (c.type_inv.bytes i).fits)) c.in_ok-count.ensures.accepted (ap (map (entry_of g.D.Written.number g.S.Written.number g.C.Written.number)) c.front.ensures ∙ m.1) c.in_ok-length.ensures.answer c.in_ok-length.ensures.memory;
+      same = rewritten (kind g.D.Written.code g.D.Written.size) (kind g.S.Written.code g.S.Written.size) (kind g.C.Written.code g.C.Written.size) (λ _. true) (entry_of g.D.Written.number g.S.Written.number g.C.Written.number) (length c.args.places.now) c.in_ok-count.count c.in_ok-length.length (length c.args.buffer.now) c.args.bytes.now c.args.buffer.now c.write_table.new.buffer (take c.in_ok-count.count c.load_table.new.places) (All-from_get_or (λ (b : ℕ). b < 256) c.args.bytes.now 0 (λ i h. (c.type_inv.bytes i).fits)) c.in_ok-count.ensures.accepted m.1 c.in_ok-length.ensures.answer c.in_ok-length.ensures.memory;
     }

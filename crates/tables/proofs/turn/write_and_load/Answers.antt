@@ -1,4 +1,4 @@
-use Rattle.std.proofs.Common.{◌≡◌, ℕ, ◌-◌, List, map, length, take, Ok, Err, Result, sym, refl, ap, ◌∙◌, subst}
+use Rattle.std.proofs.Common.{◌≡◌, ℕ, List, map, length, take, Ok, Err, Result, sym, refl, ap, ◌∙◌, subst}
 use Rattle.std.proofs.lemmas.List.{length-map}
 use Rattle.std.proofs.lemmas.Result.{err_from_is_err_and}
 use Rattle.filters.specs.Meaning.{record_of}
@@ -37,7 +37,7 @@ returns-in_err-count g c =
       same = λ pass tells fs p h.
           let b = c.reads_back.ensures pass tells (length c.args.into.now) fs h in
           let m : map (entry_of g.D.Written.number g.S.Written.number g.C.Written.number) c.args.places.now ≡ map (filed g.D.Written.pattern g.S.Written.pattern g.C.Written.pattern g.D.Written.number g.S.Written.number g.C.Written.number) fs = ap (map (entry_of g.D.Written.number g.S.Written.number g.C.Written.number)) p ∙ map_two (entry_of g.D.Written.number g.S.Written.number g.C.Written.number) (record_of g.D.Written.pattern g.S.Written.pattern g.C.Written.pattern) fs in
-          let v : table_verdict (kind g.D.Written.code g.D.Written.size) (kind g.S.Written.code g.S.Written.size) (kind g.C.Written.code g.C.Written.size) pass (length c.args.into.now) (take (c.in_ok-length.length - 0) c.write_table.new.buffer) ≡ Ok (length fs) = ap (table_verdict (kind g.D.Written.code g.D.Written.size) (kind g.S.Written.code g.S.Written.size) (kind g.C.Written.code g.C.Written.size) pass (length c.args.into.now)) (e ∙ ap (encode (kind g.D.Written.code g.D.Written.size) (kind g.S.Written.code g.S.Written.size) (kind g.C.Written.code g.C.Written.size)) m) ∙ b.0 in
+          let v : table_verdict (kind g.D.Written.code g.D.Written.size) (kind g.S.Written.code g.S.Written.size) (kind g.C.Written.code g.C.Written.size) pass (length c.args.into.now) (take c.in_ok-length.length c.write_table.new.buffer) ≡ Ok (length fs) = ap (table_verdict (kind g.D.Written.code g.D.Written.size) (kind g.S.Written.code g.S.Written.size) (kind g.C.Written.code g.C.Written.size) pass (length c.args.into.now)) (e ∙ ap (encode (kind g.D.Written.code g.D.Written.size) (kind g.S.Written.code g.S.Written.size) (kind g.C.Written.code g.C.Written.size)) m) ∙ b.0 in
           not_refused (length fs) _ (l.answer pass tells ∙ v);
     }
 
@@ -53,7 +53,7 @@ returns g c =
       same = λ pass tells fs p h.
           let b = c.reads_back.ensures pass tells (length c.args.into.now) fs h in
           let m : map (entry_of g.D.Written.number g.S.Written.number g.C.Written.number) c.args.places.now ≡ map (filed g.D.Written.pattern g.S.Written.pattern g.C.Written.pattern g.D.Written.number g.S.Written.number g.C.Written.number) fs = ap (map (entry_of g.D.Written.number g.S.Written.number g.C.Written.number)) p ∙ map_two (entry_of g.D.Written.number g.S.Written.number g.C.Written.number) (record_of g.D.Written.pattern g.S.Written.pattern g.C.Written.pattern) fs in
-          let v : table_verdict (kind g.D.Written.code g.D.Written.size) (kind g.S.Written.code g.S.Written.size) (kind g.C.Written.code g.C.Written.size) pass (length c.args.into.now) (take (c.in_ok-length.length - 0) c.write_table.new.buffer) ≡ Ok (length fs) = ap (table_verdict (kind g.D.Written.code g.D.Written.size) (kind g.S.Written.code g.S.Written.size) (kind g.C.Written.code g.C.Written.size) pass (length c.args.into.now)) (e ∙ ap (encode (kind g.D.Written.code g.D.Written.size) (kind g.S.Written.code g.S.Written.size) (kind g.C.Written.code g.C.Written.size)) m) ∙ b.0 in (
+          let v : table_verdict (kind g.D.Written.code g.D.Written.size) (kind g.S.Written.code g.S.Written.size) (kind g.C.Written.code g.C.Written.size) pass (length c.args.into.now) (take c.in_ok-length.length c.write_table.new.buffer) ≡ Ok (length fs) = ap (table_verdict (kind g.D.Written.code g.D.Written.size) (kind g.S.Written.code g.S.Written.size) (kind g.C.Written.code g.C.Written.size) pass (length c.args.into.now)) (e ∙ ap (encode (kind g.D.Written.code g.D.Written.size) (kind g.S.Written.code g.S.Written.size) (kind g.C.Written.code g.C.Written.size)) m) ∙ b.0 in (
             ok_same c.in_ok-count.count (length fs) (l.answer pass tells ∙ v) ∙ sym (ap length p ∙ length-map fs (record_of g.D.Written.pattern g.S.Written.pattern g.C.Written.pattern)),
             places_same g.D.Written.number g.S.Written.number g.C.Written.number (λ a b q. g.met.D.Pattern.Plain.same a b (sym (g.met.D.Written.plain a) ∙ q ∙ g.met.D.Written.plain b)) (λ a b q. g.met.S.Pattern.Plain.same a b (sym (g.met.S.Written.plain a) ∙ q ∙ g.met.S.Written.plain b)) (λ a b q. g.met.C.Pattern.Plain.same a b (sym (g.met.C.Written.plain a) ∙ q ∙ g.met.C.Written.plain b)) (take c.in_ok-count.count c.load_table.new.places) c.args.places.now (l.memory.1 ∙ ap (decode (kind g.D.Written.code g.D.Written.size) (kind g.S.Written.code g.S.Written.size) (kind g.C.Written.code g.C.Written.size)) (e ∙ ap (encode (kind g.D.Written.code g.D.Written.size) (kind g.S.Written.code g.S.Written.size) (kind g.C.Written.code g.C.Written.size)) m) ∙ b.1 ∙ sym m),
             l.memory.2,
