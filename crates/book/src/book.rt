@@ -1,20 +1,20 @@
 // The filter book: filters of any kinds, in memory that is handed in.
-ghost use Rattle.std.specs.Prelude.{◌≡◌, ℕ, ◌+◌, ◌-◌, ◌<◌, ◌≤◌, true, false, [], ◌∷◌, ◌++◌, map, length, take, drop, Some, None, MatchOption, slice_set};
+ghost use Rattle.std.specs.Prelude.{◌≡◌, ℕ, ◌+◌, ◌-◌, ◌<◌, ◌≤◌, true, false, [], ◌∷◌, ◌++◌, map, length, take, drop, Some, None, position, ◌==◌, slice_set};
 ghost use Rattle.std.specs.Option.{option_map, option_to_list};
 ghost use Rattle.filters.specs.declared.filter.Filter.{Filter};
 ghost use Rattle.filters.specs.declared.filter.Record.{Record};
 ghost use Rattle.filters.specs.Meaning.{record_of, rule_of, held, rules};
 ghost use Rattle.filters.specs.Refusals.{filter_verdict};
 ghost use Rattle.filters.specs.Rules.{Rule};
-ghost use Rattle.tables.specs.Verdict.{has};
-ghost use Rattle.book.specs.Labels.{labels, apart, without, FirstAt};
+ghost use Rattle.tables.specs.Verdict.{has, labels};
+ghost use Rattle.book.specs.Labels.{apart, without};
 ghost use Rattle.tables.specs.Format.{kind, entry_of, decode, encode};
 ghost use Rattle.tables.specs.Memory.{Loaded, write_verdict, written};
 ghost use Rattle.book.specs.Loads.{count_after, table_rules, load_verdict};
 ghost use Rattle.book.specs.Books.{capacity_of, add_verdict, withdraw_verdict, after};
 
 use crate::fault::{AddFault, WithdrawFault};
-use crate::memory::{filter_at, find, put, take_out};
+use crate::memory::{filter_at, put, take_out};
 use filters::check::check_filter;
 use filters::convert::to_record;
 use filters::fault::FilterFault;
@@ -79,14 +79,14 @@ impl<'m, D: Address, S: Address, C: Cost> Book<'m, D, S, C> {
     pub fn records(&self) -> &[Record<D::Pattern, S::Pattern, C::Pattern>]
         ensures { result.now ≡ take self.now.used self.now.places.now }
     {
-        &self.places[0..self.used]
+        &self.places[..self.used]
     }
 
     // The place of a filter by its label.
     fn place_of(&self, label: u16) -> Option<usize>
-        ensures { MatchOption result (has label (labels (take self.now.used self.now.places.now)) ≡ false) (λ k. FirstAt label (labels (take self.now.used self.now.places.now)) k) }
+        ensures { result ≡ position (λ r. r.label == label) (take self.now.used self.now.places.now) }
     {
-        find(&self.places[0..self.used], label)
+        self.records().iter().position(|place| place.label == label)
     }
 
     // The filter at a place, counted from 0: what was put in; none behind the last.
@@ -146,13 +146,8 @@ impl<'m, D: Address, S: Address, C: Cost> Book<'m, D, S, C> {
         ensures meaning { rules D.Address.spells S.Address.spells C.Written.reads (take self.new.used self.new.places.now) ≡ after result (table_rules (kind D.Written.code D.Written.size) (kind S.Written.code S.Written.size) (kind C.Written.code C.Written.size) C.Written.value table.now) (rules D.Address.spells S.Address.spells C.Written.reads (take self.old.used self.old.places.now)) }
     {
         let Book { places, used } = self;
-        match load_table::<D, S, C>(table, places) {
-            Ok(count) => {
-                *used = count;
-                Ok(count)
-            }
-            Err(fault) => Err(fault),
-        }
+        *used = load_table::<D, S, C>(table, places)?;
+        Ok(*used)
     }
 
     // Writes the book as a table from the buffer's start, and answers how many bytes that is; book and later bytes stay.

@@ -1,11 +1,8 @@
 -- What loading leaves in the places, and writing in the buffer, record by record.
-use Rattle.std.proofs.Common.{◌≡◌, ℕ, ◌+◌, ◌*◌, ◌<◌, ◌≤◌, Bool, cond, ltb, List, [], ◌∷◌, ◌++◌, map, length, get_or, take, drop, set, Ok, Err, sym, refl, ap, ◌∙◌, suc-mul, add-mul, one-mul, zero-mul, arith}
+use Rattle.std.proofs.Common.{◌≡◌, ℕ, ◌+◌, ◌*◌, ◌<◌, List, [], ◌∷◌, ◌++◌, map, length, get_or, take, drop, set, sym, refl, ap, ◌∙◌, suc-mul, add-mul, one-mul, zero-mul, arith}
 use borrow.Rule.Slice.PartMut.{put_mid}
 use Rattle.std.proofs.lemmas.List.{drop-drop, drop-set-lt, take_more, take_more_set, map_push, map_more, append_assoc, append-nil, length-append, length-map, length-take-le, take_at, drop_at}
-use Rattle.std.proofs.lemmas.Bool.{le-ltb, lt-ltb, or_from, or_left}
-use Rattle.tables.specs.declared.fault.WriteFault.TheVariants.{Short}
 use Rattle.tables.specs.Format.{Kind, Entry, record_parts, record_size, table_size, encode_head, encode_record, encode_records, encode, entry_numbers}
-use Rattle.tables.specs.Memory.{write_verdict}
 use Rattle.tables.proofs.Words.{length_spell}
 
 -- one place more is loaded
@@ -81,10 +78,3 @@ module _ (D S C : Kind) where
       ∙ ap (λ (xs : List ℕ). encode_head D S C n ++ xs) (k ∙ ap (λ (xs : List ℕ). t ++ xs) r)
       ∙ sym (append_assoc (encode_head D S C n) t (drop m d))
       ∙ ap (λ (j : ℕ). (encode_head D S C j ++ t) ++ drop m d) e
-
--- room enough, and not
-pub room_ok : (D S C : Kind) (n room : ℕ) → n ≤ 4095 → table_size D S C n ≤ room → Ok (table_size D S C n) ≡ write_verdict D S C n room
-room_ok D S C n room h k = sym (ap (λ (t : Bool). cond t (Err Short) (Ok (table_size D S C n))) (or_from (ltb 4095 n) (ltb room (table_size D S C n)) (le-ltb 4095 n h) (le-ltb room (table_size D S C n) k)))
-
-pub room_many : (D S C : Kind) (n room : ℕ) → 4095 < n → Err Short ≡ write_verdict D S C n room
-room_many D S C n room h = sym (ap (λ (t : Bool). cond t (Err Short) (Ok (table_size D S C n))) (or_left (ltb 4095 n) (ltb room (table_size D S C n)) (lt-ltb 4095 n h)))

@@ -1,41 +1,17 @@
 -- The verdict on a table's records, record by record.
-use Rattle.std.proofs.Common.{◌≡◌, ℕ, suc, ◌+◌, ◌*◌, ◌<◌, ◌≤◌, Bool, List, [], ◌∷◌, ◌++◌, length, get_or, take, drop, IfOk, Ok, Err, Result, sym, refl, ap, ◌∙◌, subst, mul-le-mul_right, arith}
+use Rattle.std.proofs.Common.{◌≡◌, ℕ, suc, ◌+◌, ◌<◌, Bool, List, [], ◌∷◌, ◌++◌, length, get_or, take, drop, IfOk, Ok, Err, Result, sym, refl, ap, ◌∙◌, subst, arith}
 use Rattle.std.proofs.lemmas.List.{at_drop_more, at_drop_all, map_more, length-map, length-take-le}
 use Rattle.tables.specs.declared.fault.RecordFault.{RecordFault}
 use Rattle.tables.specs.declared.fault.InRecord.{InRecord}
 use Rattle.tables.specs.declared.fault.LoadFault.{LoadFault}
 use Rattle.tables.specs.declared.fault.LoadFault.TheVariants.{Record}
-use Rattle.tables.specs.Format.{Kind, Entry, record_size, table_size, decode_record}
+use Rattle.tables.specs.Format.{Kind, Entry}
 use Rattle.tables.specs.Verdict.{has, labels, counted, onward, entry_verdict, entries_verdict}
-use Rattle.tables.proofs.Tables.{row_below}
-
--- the next record is inside the table
-pub next_fits : (D S C : Kind) (i n len : ℕ) → i < n → table_size D S C n ≤ len → table_size D S C (i + 1) ≤ len
-next_fits D S C i n len h l =
-    let k : i + 1 ≤ n = omega arith in
-    let m : (i + 1) * record_size D S C ≤ n * record_size D S C = mul-le-mul_right (record_size D S C) k in
-    omega arith
-
--- a record is inside the table, by the place where it begins
-pub record_fits : (D S C : Kind) (i n size len : ℕ) → i < n → size ≡ record_size D S C → table_size D S C n ≤ len → 4 + i * size + record_size D S C ≤ len
-record_fits D S C i n size len h e l =
-    let f : i * size ≡ i * record_size D S C = ap (λ (k : ℕ). i * k) e in
-    omega (arith, row_below i n (record_size D S C) h)
-
--- an answer on the record that was read is one on the record that the table has
-pub verdict_same : (D S C : Kind) (pass : ℕ → Bool) (seen : List ℕ) (u : Bool) (r s : Entry) → u ≡ has r.label seen → r ≡ s → entry_verdict D S C pass u r ≡ entry_verdict D S C pass (has s.label seen) s
-verdict_same D S C pass seen u r s f h = ap (λ (t : Bool). entry_verdict D S C pass t r) f ∙ ap (λ (z : Entry). entry_verdict D S C pass (has z.label seen) z) h
-
-pub counted_at : (D S C : Kind) (pass : ℕ → Bool) (seen : List ℕ) (k : ℕ) (u : Bool) (r s : Entry) (a : Result (Unit {0}) RecordFault) → a ≡ entry_verdict D S C pass u r → u ≡ has r.label seen → r ≡ s → counted k a ≡ counted k (entry_verdict D S C pass (has s.label seen) s)
-counted_at D S C pass seen k u r s a e f h = ap (counted k) (e ∙ verdict_same D S C pass seen u r s f h)
 
 -- a record that passes, passes with its number
 pub counted_passed : (k : ℕ) (a : Result (Unit {0}) RecordFault) (r : Result (Unit {0}) InRecord) (v w : Result (Unit {0}) RecordFault) → r ≡ counted k a → w ≡ v → IfOk a (λ _. v ≡ Ok tt) → IfOk r (λ _. w ≡ Ok tt)
 counted_passed k (Ok x) r v w e f h = subst (λ (z : Result (Unit {0}) InRecord). IfOk z (λ _. w ≡ Ok tt)) (sym e) (f ∙ h)
 counted_passed k (Err x) r v w e f h = subst (λ (z : Result (Unit {0}) InRecord). IfOk z (λ _. w ≡ Ok tt)) (sym e) tt
-
-pub record_same : (D S C : Kind) (bytes : List ℕ) (i size : ℕ) → size ≡ record_size D S C → decode_record D S C (drop (4 + i * size) bytes) ≡ decode_record D S C (drop (4 + i * record_size D S C) bytes)
-record_same D S C bytes i size e = ap (λ (k : ℕ). decode_record D S C (drop (4 + i * k) bytes)) e
 
 -- a record that passes leaves the answer to the rest, and one that does not is the answer
 pub onward_ok : (k m : ℕ) (v : Result (Unit {0}) RecordFault) (x : Unit {0}) (rest : Result ℕ LoadFault) → Ok x ≡ counted k v → onward m v rest ≡ rest

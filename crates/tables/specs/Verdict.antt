@@ -1,9 +1,11 @@
 -- Which tables are accepted, and which refusal another one meets at which record.
-use Rattle.std.specs.Prelude.{◌≡◌, ℕ, suc, Bool, false, cond, ◌&&◌, ◌||◌, List, [], ◌∷◌, ◌++◌, map, length, is_some, Ok, Err, Option, Result, ◌==◌, nat_lt}
+use Rattle.std.specs.Prelude.{◌≡◌, ℕ, suc, Bool, cond, ◌&&◌, List, [], ◌∷◌, ◌++◌, map, length, is_some, Ok, Err, Option, Result, ◌==◌, nat_lt}
+use Rattle.std.specs.List.{list_any}
 use Rattle.kinds.specs.Strings.{bits}
 use Rattle.kinds.specs.declared.written.PatternFault.TheVariants.{Unlawful}
 use Rattle.filters.specs.declared.fault.FilterFault.{FilterFault}
 use Rattle.filters.specs.declared.fault.FilterFault.TheVariants.{ZeroLabel}
+use Rattle.filters.specs.declared.filter.Record.{Record}
 use Rattle.filters.specs.Refusals.{body_verdict, then_used}
 use Rattle.tables.specs.declared.fault.RecordFault.{RecordFault}
 use Rattle.tables.specs.declared.fault.RecordFault.TheVariants.{Filter, Pattern}
@@ -11,7 +13,7 @@ use Rattle.tables.specs.declared.fault.HeadFault.{HeadFault}
 use Rattle.tables.specs.declared.fault.HeadFault.TheVariants.{Short, Kind as OtherKind, Length, Full}
 use Rattle.tables.specs.declared.fault.InRecord.{InRecord}
 use Rattle.tables.specs.declared.fault.LoadFault.{LoadFault}
-use Rattle.tables.specs.declared.fault.LoadFault.TheVariants.{Head, Record}
+use Rattle.tables.specs.declared.fault.LoadFault.TheVariants.{Head, Record as OfRecord}
 use Rattle.tables.specs.Bytes.{nth}
 use Rattle.tables.specs.Format.{Kind, Entry, head_fields, filter_count, table_size, decode}
 
@@ -26,12 +28,11 @@ layered (Err e) = Err (Filter e)
 
 -- one of the numbers is n
 abbrev pub has : ℕ → List ℕ → Bool
-has n [] = false
-has n (m ∷ ms) = m == n || has n ms
+has n ms = list_any (λ m. m == n) ms
 
 -- what follows a record: its refusal, with the record counted from 1, or what the rest answers
 abbrev pub onward : ℕ → Result (Unit {0}) RecordFault → Result ℕ LoadFault → Result ℕ LoadFault
-onward i (Err e) rest = Err (Record (record { «record» = i; fault = e }))
+onward i (Err e) rest = Err (OfRecord (record { «record» = i; fault = e }))
 onward i (Ok x) rest = rest
 
 -- what follows the head: its refusal, or what the records answer
@@ -41,7 +42,7 @@ behind_head (Ok n) rest = rest
 
 -- what follows n records that are checked one by one: their first refusal, or how many they are
 abbrev pub behind_records : ℕ → Result (Unit {0}) InRecord → Result ℕ LoadFault
-behind_records n (Err e) = Err (Record e)
+behind_records n (Err e) = Err (OfRecord e)
 behind_records n (Ok x) = Ok n
 
 -- a record's answer, with the record counted from 1
@@ -49,9 +50,9 @@ abbrev pub counted : ℕ → Result (Unit {0}) RecordFault → Result (Unit {0})
 counted i (Err e) = Err (record { «record» = i; fault = e })
 counted i (Ok x) = Ok tt
 
--- the labels of records
-abbrev pub labels : List Entry → List ℕ
-labels rs = map (λ (r : Entry). r.label) rs
+-- the labels of records, in their order
+abbrev pub labels : {D S P : Type 0} → List (Record D S P) → List ℕ
+labels rs = map (λ r. r.label) rs
 
 -- ---- the head
 module _ (D S C : Kind) where
