@@ -1,4 +1,4 @@
--- Verdicts on a record, test by test.
+-- What the verdict on a record's prefixes goes by.
 use Rattle.std.proofs.Common.{◌≡◌, ℕ, cond, ◌||◌, ltb, Ok, Err}
 use Rattle.kinds.specs.Strings.{Str}
 use Rattle.filters.specs.declared.directive.Directive.{Directive}

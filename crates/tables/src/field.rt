@@ -44,6 +44,7 @@ impl From<Head> for u32 {
     }
 }
 
+// A function and no `From`, as the next one: both types are of other crates, and a type between them is no plainer.
 // The directive that a number of 32 bits holds. Fields that break the rules of their form give line 0, which is unlawful.
 pub(crate) fn unpack_directive(from: u32) -> Directive
     ensures { result ≡ directive_of from }

@@ -21,6 +21,7 @@ fn read_records<D: Address, S: Address, C: Cost>(
     ensures kept { drop (length (entries (kind D.Written.code D.Written.size) (kind S.Written.code S.Written.size) (kind C.Written.code C.Written.size) records.now)) places.new ≡ drop (length (entries (kind D.Written.code D.Written.size) (kind S.Written.code S.Written.size) (kind C.Written.code C.Written.size) records.now)) places.old }
 {
     let size = record_size::<D, S, C>();
+    // `places[i]` and no `zip`: of places lent to an `iter_mut` in a `zip` the loop's proof has no name, and it does not close.
     for (i, record) in records.chunks_exact(size).enumerate() {
         places[i] = read_record::<D, S, C>(record);
     }

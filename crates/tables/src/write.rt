@@ -36,6 +36,7 @@ fn put_records<D: Address, S: Address, C: Cost>(
     ensures { records.new ≡ encode_records (kind D.Written.code D.Written.size) (kind S.Written.code S.Written.size) (kind C.Written.code C.Written.size) (map (entry_of D.Written.number S.Written.number C.Written.number) places.now) ++ drop (length places.now * record_size (kind D.Written.code D.Written.size) (kind S.Written.code S.Written.size) (kind C.Written.code C.Written.size)) records.old }
 {
     let size = record_size::<D, S, C>();
+    // A range by `i` and no `zip`: of bytes lent to a `chunks_exact_mut` the loop's proof has no name, and it does not close.
     for (i, place) in places.iter().enumerate() {
         put_record::<D, S, C>(&mut records[i * size..(i + 1) * size], place);
     }
