@@ -5,7 +5,7 @@ use Rattle.std.proofs.lemmas.List.Folds.{list_any-append}
 use Rattle.std.proofs.lemmas.Bool.{and_parts, and_from, or_from, or_parts, ne_eqb, not-true, not_from_false, le-ltb, lt-ltb, eqb-false}
 use Rattle.filters.specs.declared.fault.FilterFault.{FilterFault}
 use Rattle.filters.specs.declared.fault.FilterFault.TheVariants.{ZeroLabel, LabelInUse}
-use Rattle.filters.specs.declared.filter.Record.{Record}
+use Rattle.filters.specs.Meaning.{Record}
 use Rattle.filters.specs.Refusals.{then_used}
 use Rattle.book.specs.declared.fault.AddFault.{AddFault}
 use Rattle.book.specs.declared.fault.AddFault.TheVariants.{Full}

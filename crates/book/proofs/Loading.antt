@@ -3,7 +3,7 @@ use Rattle.std.proofs.Common.{◌≡◌, ℕ, ◌≤◌, min, Bool, true, cond, 
 use Rattle.std.proofs.lemmas.List.{length-map, length-take-le}
 use Rattle.std.proofs.lemmas.Bool.{and_parts, and_from, not_from_false, cases_lt, lt-ltb, le-ltb}
 use Rattle.kinds.specs.Strings.{Str, bits}
-use Rattle.filters.specs.declared.filter.Record.{Record}
+use Rattle.filters.specs.Meaning.{Record}
 use Rattle.filters.specs.Meaning.{held, held_at, rules}
 use Rattle.filters.specs.Rules.{Rule}
 use Rattle.tables.specs.declared.fault.HeadFault.{HeadFault}

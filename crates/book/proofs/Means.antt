@@ -4,7 +4,7 @@ use Rattle.std.proofs.lemmas.List.{take_more_set, append-nil}
 use Rattle.std.proofs.lemmas.Bool.{and_parts, or_from, or_parts, not-true, eqb-true, eqb-false, cases_Bool}
 use Rattle.kinds.specs.Strings.{Str}
 use Rattle.filters.specs.declared.filter.Filter.{Filter}
-use Rattle.filters.specs.declared.filter.Record.{Record}
+use Rattle.filters.specs.Meaning.{Record}
 use Rattle.filters.specs.Meaning.{record_of, rule_of, prefix_of, held, held_at, rules}
 use Rattle.filters.specs.Orders.{Each, Apart}
 use Rattle.filters.specs.Rules.{Rule}

@@ -4,7 +4,7 @@ use lib.Seq.{paste}
 use Rattle.std.proofs.lemmas.List.Edits.{take-paste}
 use Rattle.std.proofs.lemmas.List.{take-take, drop-take, length-drop, length-take-le}
 use Rattle.std.proofs.lemmas.Bool.{and_parts, and_from, or_from, or_parts, not-true, not_from_false}
-use Rattle.filters.specs.declared.filter.Record.{Record}
+use Rattle.filters.specs.Meaning.{Record}
 use Rattle.tables.specs.Verdict.{has}
 use Rattle.book.specs.Labels.{apart, without}
 use Rattle.tables.specs.Verdict.{labels}

@@ -5,7 +5,7 @@ use Rattle.kinds.specs.declared.cost.Cost.{Ghosts as Cost}
 use Rattle.kinds.specs.declared.plain.Plain.{Ghosts as Plain}
 use Rattle.kinds.specs.declared.written.Written.{Ghosts as Written}
 use Rattle.filters.specs.declared.fault.FilterFault.{FilterFault}
-use Rattle.filters.specs.declared.filter.Record.{Record}
+use Rattle.filters.specs.Meaning.{Record}
 use Rattle.filters.specs.Refusals.{filter_number}
 use Rattle.book.specs.declared.book.Book.{Book}
 use Rattle.book.specs.declared.fault.AddFault.{AddFault}

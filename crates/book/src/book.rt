@@ -12,7 +12,7 @@ mod calls;
 // A book of filters with destinations of kind D, sources of kind S and costs of kind C.
 #[derive(Drop)]
 pub struct Book<'m, D: Address, S: Address, C: Cost> {
-    places: &'m mut [Record<D::Pattern, S::Pattern, C::Pattern>],
+    places: &'m mut [Record<D, S, C>],
     used: usize,
     ghost fits: { used ≤ length places.now },
     ghost few: { used ≤ 4095 },

@@ -39,7 +39,7 @@ fn check_same<D: Address, S: Address, C: Cost>(
 // Puts filters into a book and reads them back, and then without the first.
 fn check_kept<D: Address, S: Address, C: Cost>(
     rt: &impl Abort,
-    memory: &mut [Record<D::Pattern, S::Pattern, C::Pattern>],
+    memory: &mut [Record<D, S, C>],
     put: &[Filter<D, S, C>],
 ) -> Result<(), Fail> {
     let mut book = Book::<D, S, C>::new(memory);
@@ -75,7 +75,7 @@ fn prefix<A: Address>(pattern: A::Pattern, length: u8) -> Prefix<A> {
 
 #[test]
 fn ipv4_to_ipv4_by_rank(rt: HostRuntime) -> Result<(), Fail> {
-    let junk: Record<u32, u32, u32> = Record {
+    let junk: Filter<u32, u32, u32> = Filter {
         label: 1,
         destination: Prefix {
             address: 0xffff_ffff,
@@ -118,7 +118,7 @@ fn ipv4_to_ipv4_by_rank(rt: HostRuntime) -> Result<(), Fail> {
 #[test]
 fn ipv4_to_socket_by_tariff(rt: HostRuntime) -> Result<(), Fail> {
     // its cost is no lawful pattern
-    let junk: Record<u32, u16, u32> = Record {
+    let junk: Filter<u32, u16, u32> = Filter {
         label: 7,
         destination: Prefix {
             address: 0xffff_ffff,
@@ -158,7 +158,7 @@ fn ipv4_to_socket_by_tariff(rt: HostRuntime) -> Result<(), Fail> {
 
 #[test]
 fn ipv6_to_ipv6_by_rank(rt: HostRuntime) -> Result<(), Fail> {
-    let junk: Record<u128, u128, u32> = Record {
+    let junk: Filter<u128, u128, u32> = Filter {
         label: 3,
         destination: Prefix {
             address: u128::MAX,

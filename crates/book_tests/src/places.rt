@@ -1,17 +1,17 @@
 // Filters from socket to socket at ranks, and memory that holds something else.
 use book::fault::AddFault;
 use filters::directive::Directive;
-use filters::filter::{Filter, Prefix, Record};
+use filters::filter::{Filter, Prefix};
 use kinds::address::Address;
 use kinds::rank::Rank;
 use kinds::socket::Socket;
 
-pub(crate) type Place = Record<u16, u16, u32>;
+pub(crate) type Place = Filter<u16, u16, u32>;
 
 pub(crate) type Plain = Filter<Socket, Socket, Rank>;
 
 // What stands in memory before a book writes there: unlawful throughout, but with a label that filters have too.
-pub(crate) const JUNK: Place = Record {
+pub(crate) const JUNK: Place = Filter {
     label: 1,
     destination: Prefix {
         address: 0xdead,

@@ -2,7 +2,7 @@
 use crate::places::number;
 use book::book::Book;
 use filters::directive::Directive;
-use filters::filter::{Filter, Prefix, Record};
+use filters::filter::{Filter, Prefix};
 use kinds::address::Address;
 use kinds::ipv4::Ipv4;
 use kinds::rank::Rank;
@@ -12,7 +12,7 @@ use std::test::Fail;
 
 type Steering = Filter<Ipv4, Socket, Rank>;
 
-const JUNK: Record<u32, u16, u32> = Record {
+const JUNK: Filter<u32, u16, u32> = Filter {
     label: 2,
     destination: Prefix {
         address: 0xdead_beef,
@@ -109,7 +109,7 @@ const CASES: [(u16, u32, u8, u16, u8, Directive, u8); 39] = [
 // Adds a filter behind label 9 in memory of so many places; a refused filter leaves everything as it was.
 fn attempt(
     rt: &impl Abort,
-    memory: &mut [Record<u32, u16, u32>],
+    memory: &mut [Filter<u32, u16, u32>],
     filter: &Steering,
     refusal: u8,
 ) -> Result<(), Fail> {

@@ -14,7 +14,7 @@ use std::test::Fail;
 
 // The label found, 0 for none.
 fn found<D: Address, S: Address, C: Cost>(
-    places: &[Record<D::Pattern, S::Pattern, C::Pattern>],
+    places: &[Record<D, S, C>],
     destination: D::Pattern,
     source: S::Pattern,
 ) -> u16 {
@@ -133,7 +133,7 @@ const STANDINGS: [(u8, u32, u16, usize); 6] = [
 
 #[test]
 fn tariffs(rt: HostRuntime) -> Result<(), Fail> {
-    let mut memory: [Record<u32, u32, u32>; 6] = [Record {
+    let mut memory: [Filter<u32, u32, u32>; 6] = [Filter {
         label: 0,
         destination: Prefix {
             address: 0,

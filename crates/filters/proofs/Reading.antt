@@ -2,7 +2,7 @@
 use Rattle.std.proofs.Common.{◌≡◌, ℕ, suc, ◌+◌, ◌<◌, Bool, true, false, cond, List, [], ◌∷◌, ◌++◌, map, length, get_or, drop, Option, sym, refl, ap, ◌∙◌, add_assoc, zero-add, arith}
 use Rattle.std.proofs.lemmas.List.{append_assoc, map-append, at_drop_more}
 use Rattle.kinds.specs.Strings.{Str}
-use Rattle.filters.specs.declared.filter.Record.{Record}
+use Rattle.filters.specs.Meaning.{Record}
 use Rattle.filters.specs.Rules.{Rule, scan, pick, only, count}
 use Rattle.filters.specs.Meaning.{held, rules}
 

@@ -12,7 +12,7 @@ use kinds::cost::Cost;
 fn has_bit_from<A: Address>(address: &A, first: u32) -> bool
     ensures { result ≡ stray first (A.Address.string address.now) }
 {
-    for i in first..A::width_in_bits() {
+    for i in first..A::WIDTH {
         if address.bit(i) {
             return true;
         }
@@ -33,9 +33,9 @@ pub fn check_body<D: Address, S: Address>(
     source: &Prefix<S>,
     directive: Directive,
 ) -> Result<(), FilterFault>
-    ensures { result ≡ body_verdict D.Address.string S.Address.string D.Address.width S.Address.width destination.now source.now directive }
+    ensures { result ≡ body_verdict D.Address.string S.Address.string D.Address.WIDTH S.Address.WIDTH destination.now source.now directive }
 {
-    if destination.length as u32 > D::width_in_bits() || source.length as u32 > S::width_in_bits() {
+    if destination.length as u32 > D::WIDTH || source.length as u32 > S::WIDTH {
         return Err(FilterFault::LongPrefix);
     }
     if has_stray_bit(destination) || has_stray_bit(source) {
@@ -52,7 +52,7 @@ pub fn check_filter<D: Address, S: Address, C: Cost>(
     filter: &Filter<D, S, C>,
     used: bool,
 ) -> Result<(), FilterFault>
-    ensures { result ≡ filter_verdict D.Address.string S.Address.string D.Address.width S.Address.width used filter.now }
+    ensures { result ≡ filter_verdict D.Address.string S.Address.string D.Address.WIDTH S.Address.WIDTH used filter.now }
 {
     if filter.label == 0 {
         return Err(FilterFault::ZeroLabel);

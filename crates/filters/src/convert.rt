@@ -13,10 +13,10 @@ use kinds::written::PatternFault;
 // The record that keeps a filter.
 pub fn to_record<D: Address, S: Address, C: Cost>(
     filter: &Filter<D, S, C>,
-) -> Record<D::Pattern, S::Pattern, C::Pattern>
+) -> Record<D, S, C>
     ensures { result ≡ record_of D.Written.pattern S.Written.pattern C.Written.pattern filter.now }
 {
-    Record {
+    Filter {
         label: filter.label,
         destination: Prefix {
             address: filter.destination.address.write(),
@@ -33,7 +33,7 @@ pub fn to_record<D: Address, S: Address, C: Cost>(
 
 // The filter that a record keeps: what was put in, and none where the cost is no lawful pattern.
 pub fn to_filter<D: Address, S: Address, C: Cost>(
-    place: &Record<D::Pattern, S::Pattern, C::Pattern>,
+    place: &Record<D, S, C>,
 ) -> Result<Filter<D, S, C>, PatternFault>
     ensures meaning { held D.Address.spells S.Address.spells C.Written.reads place.now ≡ option_to_list (option_map (rule_of D.Address.string S.Address.string) (result_ok result)) }
     ensures back { (f : Filter D S C) → place.now ≡ record_of D.Written.pattern S.Written.pattern C.Written.pattern f → result ≡ Ok f }

@@ -39,7 +39,7 @@ fn keep_better<D: Address, S: Address, C: Cost>(
 // The same with what a place holds, if it holds a filter.
 fn consider<D: Address, S: Address, C: Cost>(
     best: Option<Filter<D, S, C>>,
-    place: &Record<D::Pattern, S::Pattern, C::Pattern>,
+    place: &Record<D, S, C>,
     destination: &D,
     source: &S,
 ) -> Option<Filter<D, S, C>>
@@ -53,7 +53,7 @@ fn consider<D: Address, S: Address, C: Cost>(
 
 // The best filter that matches the two addresses, of all that the places hold.
 pub fn linear_search<D: Address, S: Address, C: Cost>(
-    places: &[Record<D::Pattern, S::Pattern, C::Pattern>],
+    places: &[Record<D, S, C>],
     destination: &D,
     source: &S,
 ) -> Option<Filter<D, S, C>>
@@ -69,7 +69,7 @@ pub fn linear_search<D: Address, S: Address, C: Cost>(
 
 // 1 where a place holds a filter that is better than one of this cost and label, else 0.
 fn ahead<D: Address, S: Address, C: Cost>(
-    place: &Record<D::Pattern, S::Pattern, C::Pattern>,
+    place: &Record<D, S, C>,
     cost: &C,
     label: u16,
 ) -> usize
@@ -88,7 +88,7 @@ fn ahead<D: Address, S: Address, C: Cost>(
 
 // The standing of a filter of this cost and label: how many filters that the places hold are better.
 pub fn standing<D: Address, S: Address, C: Cost>(
-    places: &[Record<D::Pattern, S::Pattern, C::Pattern>],
+    places: &[Record<D, S, C>],
     cost: &C,
     label: u16,
 ) -> usize

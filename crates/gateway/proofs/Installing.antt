@@ -35,8 +35,8 @@ module _ {D S C D' S' C' : Type 0} (K : Kinds D S C D' S' C') (bytes : List ℕ)
       record {
         answer =
             ap (installed_by n)
-            (build.answer ∙ (λ i. cond {A = Result ℕ BuildFault} (too_few (length g.nodes.now) (a.count i) K.dst.width K.src.width) (Err Places) (Ok (nodes (m i)))))
-            ∙ by_test (too_few (length g.nodes.now) n K.dst.width K.src.width) n (nodes (filters_of K bytes))
+            (build.answer ∙ (λ i. cond {A = Result ℕ BuildFault} (too_few (length g.nodes.now) (a.count i) K.dst.WIDTH K.src.WIDTH) (Err Places) (Ok (nodes (m i)))))
+            ∙ by_test (too_few (length g.nodes.now) n K.dst.WIDTH K.src.WIDTH) n (nodes (filters_of K bytes))
             ∙ ap (installing K (length g.nodes.now) bytes) a.answer;
         book = subst (λ (z : Result ℕ LoadFault). Loads K bytes z b b') a.answer a;
         grid =

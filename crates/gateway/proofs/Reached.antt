@@ -53,21 +53,21 @@ module _ {D S C D' S' C' : Type 0} (K : Kinds D S C D' S' C') where
       subst (λ (l : Left C). After K l w) (h.goes ∙ (λ i. past K (r i) (p i) calls)) h.stands
 
   -- what is assured of a gateway that stands as a history leaves it
-  module _ (laws : Compares K.cost.order) (d s : Str) (long : length d ≡ K.dst.width) (long' : length s ≡ K.src.width) where
+  module _ (laws : Compares K.cost.order) (d s : Str) (long : length d ≡ K.dst.WIDTH) (long' : length s ≡ K.src.WIDTH) where
     pub assured_after : (l : Left C) (w : GatewayOf K) → After K l w → (places : ℕ) (o : Outcome) → o.found ≡ answer_of K l.built d s
-        → o.trailed ≡ trail_verdict places K.dst.width K.src.width (answer_of K l.built d s) → o.nodes ≡ w.grid.now.used → Assured K l d s places o
+        → o.trailed ≡ trail_verdict places K.dst.WIDTH K.src.WIDTH (answer_of K l.built d s) → o.nodes ≡ w.grid.now.used → Assured K l d s places o
     assured_after l w h places o f t u =
         let g = h.derived in
         let e : o.nodes ≡ nodes l.built = u ∙ sym g.long ∙ keys_count l.built g.keys g.distinct g.whole in
-        let n = nodes_few l.built K.dst.width K.src.width h.short in
-        let m = need_bound (length l.built) K.dst.width K.src.width in
+        let n = nodes_few l.built K.dst.WIDTH K.src.WIDTH h.short in
+        let m = need_bound (length l.built) K.dst.WIDTH K.src.WIDTH in
         record {
           apart = h.apart;
           equals = f;
           found =
-              subst (λ (a : Answer). Right K.cost.order K.dst.width K.src.width l.built d s a) (sym f)
-              (answer_right K.cost.order laws l.built h.apart d s K.dst.width K.src.width long long');
-          trailed = t ∙ ap (trail_verdict places K.dst.width K.src.width) (sym f);
+              subst (λ (a : Answer). Right K.cost.order K.dst.WIDTH K.src.WIDTH l.built d s a) (sym f)
+              (answer_right K.cost.order laws l.built h.apart d s K.dst.WIDTH K.src.WIDTH long long');
+          trailed = t ∙ ap (trail_verdict places K.dst.WIDTH K.src.WIDTH) (sym f);
           counted = e;
           bounded = omega arith;
         }

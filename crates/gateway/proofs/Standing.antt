@@ -3,7 +3,7 @@ use Rattle.std.proofs.Common.{◌≡◌, ℕ, ◌+◌, ◌-◌, ◌≤◌, Bool,
 use Rattle.std.proofs.lemmas.List.{length-append, length-drop, length-map, length_push, length-set, length-take-le}
 use Rattle.kinds.specs.Strings.{bits}
 use Rattle.filters.specs.declared.filter.Filter.{Filter}
-use Rattle.filters.specs.declared.filter.Record.{Record}
+use Rattle.filters.specs.Meaning.{Record}
 use Rattle.filters.specs.Meaning.{record_of}
 use Rattle.filters.specs.Orders.{Each, Apart}
 use Rattle.filters.specs.Rules.{Rule}
@@ -143,7 +143,7 @@ module _ {D S C D' S' C' : Type 0} (K : Kinds D S C D' S' C') (l : Left C) (b : 
       let p =
       behind_parts (dst_kind K) (src_kind K) (cost_kind K) (head_verdict (dst_kind K) (src_kind K) (cost_kind K) cap bytes)
       (entries_verdict (dst_kind K) (src_kind K) (cost_kind K) (λ x. is_some (K.cost_written.value x)) [] (decode (dst_kind K) (src_kind K) (cost_kind K) bytes)) n e in
-      all_read (bits K.dst_written.size) (bits K.src_written.size) K.cost_written.value (decode (dst_kind K) (src_kind K) (cost_kind K) bytes)
+      all_read (bits K.dst_written.SIZE) (bits K.src_written.SIZE) K.cost_written.value (decode (dst_kind K) (src_kind K) (cost_kind K) bytes)
       (costs_passed (dst_kind K) (src_kind K) (cost_kind K) (λ x. is_some (K.cost_written.value x)) [] (decode (dst_kind K) (src_kind K) (cost_kind K) bytes) n p.1)
       ∙ k
 
@@ -168,7 +168,7 @@ module _ {D S C D' S' C' : Type 0} (K : Kinds D S C D' S' C') (l : Left C) (b : 
       ∙ sym a.count)
 
   -- ---- building, given that no address spells more bits than its kind has
-  module _ (dst_long : (x : D') → length (K.dst.spells x) ≤ K.dst.width) (src_long : (x : S') → length (K.src.spells x) ≤ K.src.width) where
+  module _ (dst_long : (x : D') → length (K.dst.spells x) ≤ K.dst.WIDTH) (src_long : (x : S') → length (K.src.spells x) ≤ K.src.WIDTH) where
     built_by : (g' : GridOf K) (r : Result ℕ BuildFault) (t : Bool) → r ≡ cond t (Err Places) (Ok (nodes (filters_in K b)))
         → MatchResult r (λ _. Derived (ahead K) (filters_in K b) g'.nodes.now g'.used) (λ _. g'.nodes.now ≡ g.nodes.now)
         → g'.used ≡ after r (nodes (filters_in K b)) g.used
@@ -193,14 +193,14 @@ module _ {D S C D' S' C' : Type 0} (K : Kinds D S C D' S' C') (l : Left C) (b : 
           derived = subst (λ (F : List (Rule C)). Derived (ahead K) F g'.nodes.now g'.used) h.held d;
           apart = subst (λ (F : List (Rule C)). Apart F) h.held (rules_apart K.dst.spells K.src.spells K.cost_written.reads (take b.used b.places.now) b.lawful);
           short =
-              subst (λ (F : List (Rule C)). Each (λ f. (length f.destination ≤ K.dst.width) × (length f.source ≤ K.src.width)) F) h.held
-              (rules_short K.dst.spells K.src.spells K.cost_written.reads K.dst.width K.src.width dst_long src_long (take b.used b.places.now));
+              subst (λ (F : List (Rule C)). Each (λ f. (length f.destination ≤ K.dst.WIDTH) × (length f.source ≤ K.src.WIDTH)) F) h.held
+              (rules_short K.dst.spells K.src.spells K.cost_written.reads K.dst.WIDTH K.src.WIDTH dst_long src_long (take b.used b.places.now));
         }
 
     pub builds_leaves : (cap : ℕ) (g' : GridOf K) (r : Result ℕ BuildFault) → Builds K r b g g' → Stands K (rebuilt K cap (length g.nodes.now) l) b g'
     builds_leaves cap g' r a =
-        let k : too_few (length g.nodes.now) b.used K.dst.width K.src.width ≡ crowded K cap (length g.nodes.now) l.book =
-        ap (λ (n : ℕ). too_few (length g.nodes.now) n K.dst.width K.src.width) (sym h.whole) in
+        let k : too_few (length g.nodes.now) b.used K.dst.WIDTH K.src.WIDTH ≡ crowded K cap (length g.nodes.now) l.book =
+        ap (λ (n : ℕ). too_few (length g.nodes.now) n K.dst.WIDTH K.src.WIDTH) (sym h.whole) in
         built_by g' r (crowded K cap (length g.nodes.now) l.book)
         (a.answer ∙ ap (λ (t : Bool). cond {A = Result ℕ BuildFault} t (Err Places) (Ok (nodes (filters_in K b)))) k) a.memory a.count
 
@@ -216,7 +216,7 @@ module _ {D S C D' S' C' : Type 0} (K : Kinds D S C D' S' C') (l : Left C) (b b'
       (rebooked K l b g h b' l.book (m ∙ h.held) (h.whole ∙ sym a.count))
 
   -- an accepted one is followed by a build
-  pub installed_leaves : ((x : D') → length (K.dst.spells x) ≤ K.dst.width) → ((x : S') → length (K.src.spells x) ≤ K.src.width)
+  pub installed_leaves : ((x : D') → length (K.dst.spells x) ≤ K.dst.WIDTH) → ((x : S') → length (K.src.spells x) ≤ K.src.WIDTH)
       → (n : ℕ) → Loads K bytes (Ok n) b b' → filters_in K b' ≡ filters_of K bytes → (g' : GridOf K) (r : Result ℕ BuildFault) → Builds K r b' g g'
       → Stands K (installed K (capacity_of (length b.places.now)) (length g.nodes.now) l bytes) b' g'
   installed_leaves dst_long src_long n a m g' r build =

@@ -54,7 +54,7 @@ module _ {D S C D' S' C' : Type 0} (K : Kinds D S C D' S' C') where
     pub whole : length l.book ≡ b.used
     pub derived : Derived (ahead K) l.built g.nodes.now g.used
     pub apart : Apart l.built
-    pub short : Each (λ f. (length f.destination ≤ K.dst.width) × (length f.source ≤ K.src.width)) l.built
+    pub short : Each (λ f. (length f.destination ≤ K.dst.WIDTH) × (length f.source ≤ K.src.WIDTH)) l.built
 
   -- a gateway of these kinds
   abbrev pub GatewayOf : Type 0
@@ -90,7 +90,7 @@ module _ {D S C D' S' C' : Type 0} (K : Kinds D S C D' S' C') where
   Writes (Trail d s) w t t' =
       (l : Left C) → (h : After l w)
       → Trailed h.derived.keys l.built (K.dst.string d) (K.src.string s) t t'
-      (trail_verdict (length t) K.dst.width K.src.width (answer_of l.built (K.dst.string d) (K.src.string s)))
+      (trail_verdict (length t) K.dst.WIDTH K.src.WIDTH (answer_of l.built (K.dst.string d) (K.src.string s)))
 
   -- ---- the assurance
 
@@ -99,11 +99,11 @@ module _ {D S C D' S' C' : Type 0} (K : Kinds D S C D' S' C') where
   -- most one node and, for each filter, both widths and one more
   pub record Assured (l : Left C) (d s : Str) (places : ℕ) (o : Outcome) : Type 0 where
     pub apart : Apart l.built
-    pub found : Right K.cost.order K.dst.width K.src.width l.built d s o.found
+    pub found : Right K.cost.order K.dst.WIDTH K.src.WIDTH l.built d s o.found
     pub equals : o.found ≡ answer_of l.built d s
-    pub trailed : o.trailed ≡ trail_verdict places K.dst.width K.src.width o.found
+    pub trailed : o.trailed ≡ trail_verdict places K.dst.WIDTH K.src.WIDTH o.found
     pub counted : o.nodes ≡ nodes l.built
-    pub bounded : o.nodes ≤ 1 + length l.built * (K.dst.width + K.src.width + 1)
+    pub bounded : o.nodes ≤ 1 + length l.built * (K.dst.WIDTH + K.src.WIDTH + 1)
 
   -- what holds of the same lookup behind two histories: both are assured, and where the built filters are the same, in any order,
   -- so are choice and visits, however memories and histories differ

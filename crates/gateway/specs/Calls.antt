@@ -48,7 +48,7 @@ module _ {D S C D' S' C' : Type 0} (K : Kinds D S C D' S' C') where
 
   -- building: each node is derived from the book's filters and every place behind is empty, or nothing changes
   pub record Builds (r : Result ℕ BuildFault) (b : BookOf K) (g g' : GridOf K) : Type 0 where
-    pub answer : r ≡ cond (too_few (length g.nodes.now) b.used K.dst.width K.src.width) (Err Places) (Ok (nodes (filters_in K b)))
+    pub answer : r ≡ cond (too_few (length g.nodes.now) b.used K.dst.WIDTH K.src.WIDTH) (Err Places) (Ok (nodes (filters_in K b)))
     pub memory : MatchResult r (λ _. Derived (ahead K) (filters_in K b) g'.nodes.now g'.used) (λ _. g'.nodes.now ≡ g.nodes.now)
     pub count : g'.used ≡ after r (nodes (filters_in K b)) g.used
 
@@ -56,7 +56,7 @@ module _ {D S C D' S' C' : Type 0} (K : Kinds D S C D' S' C') where
   abbrev pub installing : ℕ → List ℕ → Result ℕ LoadFault → Result Installed InstallFault
   installing places bytes (Err e) = Err (Load e)
   installing places bytes (Ok n) =
-      cond (too_few places n K.dst.width K.src.width) (Err (Build Places)) (Ok (record { filters = n; nodes = nodes (filters_of K bytes) }))
+      cond (too_few places n K.dst.WIDTH K.src.WIDTH) (Err (Build Places)) (Ok (record { filters = n; nodes = nodes (filters_of K bytes) }))
 
   -- installing: load and then build. A refused load changes nothing; a refused build leaves the loaded book and the old grid
   pub record Installs (bytes : List ℕ) (r : Result Installed InstallFault) (b b' : BookOf K) (g g' : GridOf K) : Type 0 where

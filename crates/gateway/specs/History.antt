@@ -33,7 +33,7 @@ module _ {D S C D' S' C' : Type 0} (K : Kinds D S C D' S' C') (capacity places :
 
   -- the node places are too few for the filters in the book
   abbrev pub crowded : List (Rule C) → Bool
-  crowded B = too_few places (length B) K.dst.width K.src.width
+  crowded B = too_few places (length B) K.dst.WIDTH K.src.WIDTH
 
   -- an accepted add puts its filter last
   abbrev pub added : List (Rule C) → Filter D S C → List (Rule C)

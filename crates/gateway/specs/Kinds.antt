@@ -6,7 +6,7 @@ use Rattle.kinds.specs.declared.plain.Plain as Plain
 use Rattle.kinds.specs.declared.written.Written as Written
 use Rattle.filters.specs.declared.fault.FilterFault.{FilterFault}
 use Rattle.filters.specs.declared.filter.Filter.{Filter}
-use Rattle.filters.specs.declared.filter.Record.{Record}
+use Rattle.filters.specs.Meaning.{Record}
 use Rattle.filters.specs.Meaning.{rule_of, rules}
 use Rattle.filters.specs.Refusals.{filter_verdict}
 use Rattle.filters.specs.Rules.{Rule, better}
@@ -74,17 +74,17 @@ module _ {D S C D' S' C' : Type 0} (K : Kinds D S C D' S' C') where
 
   -- the first refusal of a filter; `used` says whether its label is in use already
   abbrev pub refusal_of : Bool → Filter D S C → Result (Unit {0}) FilterFault
-  refusal_of used f = filter_verdict K.dst.string K.src.string K.dst.width K.src.width used f
+  refusal_of used f = filter_verdict K.dst.string K.src.string K.dst.WIDTH K.src.WIDTH used f
 
   -- what a table says of the three kinds
   abbrev pub dst_kind : Kind
-  dst_kind = kind K.dst_written.code K.dst_written.size
+  dst_kind = kind K.dst_written.CODE K.dst_written.SIZE
 
   abbrev pub src_kind : Kind
-  src_kind = kind K.src_written.code K.src_written.size
+  src_kind = kind K.src_written.CODE K.src_written.SIZE
 
   abbrev pub cost_kind : Kind
-  cost_kind = kind K.cost_written.code K.cost_written.size
+  cost_kind = kind K.cost_written.CODE K.cost_written.SIZE
 
   -- the answer of loading a table where so many filters have room, and the filters that a table states
   abbrev pub loading : ℕ → List ℕ → Result ℕ LoadFault

@@ -48,7 +48,7 @@ fn make_call<D: Address, S: Address, C: Cost>(
 )
     ensures history { Follows (kinds_of D.Address.own D.Written D.Pattern.Plain S.Address.own S.Written S.Pattern.Plain C.Cost.own C.Written C.Pattern.Plain) call.now gateway.old gateway.new }
     ensures memory { Writes (kinds_of D.Address.own D.Written D.Pattern.Plain S.Address.own S.Written S.Pattern.Plain C.Cost.own C.Written C.Pattern.Plain) call.now gateway.old trail.old trail.new }
-    ensures same { length trail.old < D.Address.width + S.Address.width + 2 → trail.new ≡ trail.old }
+    ensures same { length trail.old < D.Address.WIDTH + S.Address.WIDTH + 2 → trail.new ≡ trail.old }
 {
     match call {
         Call::Add(filter) => {
@@ -78,7 +78,7 @@ fn make_call<D: Address, S: Address, C: Cost>(
 
 // Makes a book and a grid in memory of any content, makes the calls, and looks two addresses up.
 pub fn replay<D: Address, S: Address, C: Cost>(
-    places: &mut [Record<D::Pattern, S::Pattern, C::Pattern>],
+    places: &mut [Record<D, S, C>],
     nodes: &mut [Node],
     trail: &mut [u32],
     calls: &[Call<D, S, C>],
@@ -86,8 +86,8 @@ pub fn replay<D: Address, S: Address, C: Cost>(
     source: &S,
 ) -> Outcome
     ensures assured { Assured (kinds_of D.Address.own D.Written D.Pattern.Plain S.Address.own S.Written S.Pattern.Plain C.Cost.own C.Written C.Pattern.Plain) (past (kinds_of D.Address.own D.Written D.Pattern.Plain S.Address.own S.Written S.Pattern.Plain C.Cost.own C.Written C.Pattern.Plain) (capacity_of (length places.old)) (length nodes.old) calls.now) (D.Address.string destination.now) (S.Address.string source.now) (length trail.old) result }
-    ensures same { length trail.old < D.Address.width + S.Address.width + 2 → trail.new ≡ trail.old }
-    ensures marked { D.Address.width + S.Address.width + 2 ≤ length trail.old → Marked (past (kinds_of D.Address.own D.Written D.Pattern.Plain S.Address.own S.Written S.Pattern.Plain C.Cost.own C.Written C.Pattern.Plain) (capacity_of (length places.old)) (length nodes.old) calls.now).built (D.Address.string destination.now) (S.Address.string source.now) trail.new }
+    ensures same { length trail.old < D.Address.WIDTH + S.Address.WIDTH + 2 → trail.new ≡ trail.old }
+    ensures marked { D.Address.WIDTH + S.Address.WIDTH + 2 ≤ length trail.old → Marked (past (kinds_of D.Address.own D.Written D.Pattern.Plain S.Address.own S.Written S.Pattern.Plain C.Cost.own C.Written C.Pattern.Plain) (capacity_of (length places.old)) (length nodes.old) calls.now).built (D.Address.string destination.now) (S.Address.string source.now) trail.new }
 {
     let mut book = Book::new(places);
     let mut grid = Grid::new(nodes);
@@ -108,11 +108,11 @@ pub fn replay<D: Address, S: Address, C: Cost>(
 // for the filters that its history built last, and histories that built the same filters, in any order, end in the same choice
 // and visits.
 pub fn replay_two<D: Address, S: Address, C: Cost>(
-    places: &mut [Record<D::Pattern, S::Pattern, C::Pattern>],
+    places: &mut [Record<D, S, C>],
     nodes: &mut [Node],
     trail: &mut [u32],
     calls: &[Call<D, S, C>],
-    other_places: &mut [Record<D::Pattern, S::Pattern, C::Pattern>],
+    other_places: &mut [Record<D, S, C>],
     other_nodes: &mut [Node],
     other_trail: &mut [u32],
     other_calls: &[Call<D, S, C>],
@@ -120,10 +120,10 @@ pub fn replay_two<D: Address, S: Address, C: Cost>(
     source: &S,
 ) -> (Outcome, Outcome)
     ensures assurance { Assurance (kinds_of D.Address.own D.Written D.Pattern.Plain S.Address.own S.Written S.Pattern.Plain C.Cost.own C.Written C.Pattern.Plain) (past (kinds_of D.Address.own D.Written D.Pattern.Plain S.Address.own S.Written S.Pattern.Plain C.Cost.own C.Written C.Pattern.Plain) (capacity_of (length places.old)) (length nodes.old) calls.now) (past (kinds_of D.Address.own D.Written D.Pattern.Plain S.Address.own S.Written S.Pattern.Plain C.Cost.own C.Written C.Pattern.Plain) (capacity_of (length other_places.old)) (length other_nodes.old) other_calls.now) (D.Address.string destination.now) (S.Address.string source.now) (length trail.old) (length other_trail.old) result }
-    ensures same { length trail.old < D.Address.width + S.Address.width + 2 → trail.new ≡ trail.old }
-    ensures marked { D.Address.width + S.Address.width + 2 ≤ length trail.old → Marked (past (kinds_of D.Address.own D.Written D.Pattern.Plain S.Address.own S.Written S.Pattern.Plain C.Cost.own C.Written C.Pattern.Plain) (capacity_of (length places.old)) (length nodes.old) calls.now).built (D.Address.string destination.now) (S.Address.string source.now) trail.new }
-    ensures other { length other_trail.old < D.Address.width + S.Address.width + 2 → other_trail.new ≡ other_trail.old }
-    ensures other_marked { D.Address.width + S.Address.width + 2 ≤ length other_trail.old → Marked (past (kinds_of D.Address.own D.Written D.Pattern.Plain S.Address.own S.Written S.Pattern.Plain C.Cost.own C.Written C.Pattern.Plain) (capacity_of (length other_places.old)) (length other_nodes.old) other_calls.now).built (D.Address.string destination.now) (S.Address.string source.now) other_trail.new }
+    ensures same { length trail.old < D.Address.WIDTH + S.Address.WIDTH + 2 → trail.new ≡ trail.old }
+    ensures marked { D.Address.WIDTH + S.Address.WIDTH + 2 ≤ length trail.old → Marked (past (kinds_of D.Address.own D.Written D.Pattern.Plain S.Address.own S.Written S.Pattern.Plain C.Cost.own C.Written C.Pattern.Plain) (capacity_of (length places.old)) (length nodes.old) calls.now).built (D.Address.string destination.now) (S.Address.string source.now) trail.new }
+    ensures other { length other_trail.old < D.Address.WIDTH + S.Address.WIDTH + 2 → other_trail.new ≡ other_trail.old }
+    ensures other_marked { D.Address.WIDTH + S.Address.WIDTH + 2 ≤ length other_trail.old → Marked (past (kinds_of D.Address.own D.Written D.Pattern.Plain S.Address.own S.Written S.Pattern.Plain C.Cost.own C.Written C.Pattern.Plain) (capacity_of (length other_places.old)) (length other_nodes.old) other_calls.now).built (D.Address.string destination.now) (S.Address.string source.now) other_trail.new }
 {
     let first = replay(places, nodes, trail, calls, destination, source);
     let second = replay(

@@ -2,7 +2,7 @@
 use Rattle.std.proofs.Common.{◌≡◌, ℕ, zero, suc, ◌+◌, ◌-◌, ◌<◌, Bool, true, List, [], ◌∷◌, ◌++◌, map, length, take, drop, replicate, Some, None, Option, sym, refl, ap, ◌∙◌, subst, inl, inr, arith}
 use Rattle.std.proofs.lemmas.List.{length-append, length-drop, length-map, length-take, take_at, drop_at, replicate-append-replicate}
 use Rattle.kinds.specs.Strings.{Str}
-use Rattle.filters.specs.declared.filter.Record.{Record}
+use Rattle.filters.specs.Meaning.{Record}
 use Rattle.filters.specs.Rules.{Rule}
 use Rattle.filters.specs.Meaning.{held, held_at, rules}
 use Rattle.filters.specs.Orders.{In, Apart, Order}

@@ -6,7 +6,7 @@ use Rattle.std.proofs.lemmas.List.{map_push, append-nil, length-append, take_mor
 use Rattle.std.proofs.lemmas.Bool.{both_ways, cases_Bool, and_parts, cond-true, cond-false, lt-ltb, le-ltb}
 use Rattle.kinds.specs.Strings.{Str, starts, equal}
 use Rattle.kinds.proofs.Prefixes.{equal_same}
-use Rattle.filters.specs.declared.filter.Record.{Record}
+use Rattle.filters.specs.Meaning.{Record}
 use Rattle.filters.specs.Rules.{Rule, count, pick, scan, only, best, standing}
 use Rattle.filters.specs.Meaning.{held, held_at, rules}
 use Rattle.filters.specs.Orders.{In, Order}

@@ -40,12 +40,12 @@ impl BuildFault {
 // The node places that are enough for so many filters.
 fn places_needed<D: Address, S: Address>(count: usize) -> usize
     requires { count ≤ 4095 }
-    ensures { result ≡ need count D.Address.width S.Address.width }
+    ensures { result ≡ need count D.Address.WIDTH S.Address.WIDTH }
 {
     if count == 0 {
         return 0;
     }
-    let bits = (D::width_in_bits() + S::width_in_bits() + 1) as usize;
+    let bits = (D::WIDTH + S::WIDTH + 1) as usize;
     1 + count * bits
 }
 
@@ -53,11 +53,11 @@ fn places_needed<D: Address, S: Address>(count: usize) -> usize
 fn fill<D: Address, S: Address, C: Cost>(
     nodes: &mut [Node],
     used: &mut u32,
-    records: &[Record<D::Pattern, S::Pattern, C::Pattern>],
+    records: &[Record<D, S, C>],
 ) -> u32
     requires safe { Safe used.old nodes.old }
     requires few { length records.now ≤ 4095 }
-    requires room { need (length records.now) D.Address.width S.Address.width ≤ length nodes.old }
+    requires room { need (length records.now) D.Address.WIDTH S.Address.WIDTH ≤ length nodes.old }
     ensures safe { Safe used.new nodes.new }
     ensures answer { result ≡ used.new }
     ensures count { used.new ≡ nodes_of (rules D.Address.spells S.Address.spells C.Written.reads records.now) }
@@ -76,14 +76,14 @@ impl<'m, D: Address, S: Address, C: Cost> Grid<'m, D, S, C> {
     // so many filters may need, and then nothing changes; else the number of nodes is answered.
     pub(crate) fn build_from(
         &mut self,
-        records: &[Record<D::Pattern, S::Pattern, C::Pattern>],
+        records: &[Record<D, S, C>],
     ) -> Result<u32, BuildFault>
         requires { length records.now ≤ 4095 }
-        ensures answer { result ≡ (if too_few (length self.old.nodes.now) (length records.now) D.Address.width S.Address.width then Err Places else Ok (nodes_of (rules D.Address.spells S.Address.spells C.Written.reads records.now))) }
-        ensures count { self.new.used ≡ (if too_few (length self.old.nodes.now) (length records.now) D.Address.width S.Address.width then self.old.used else nodes_of (rules D.Address.spells S.Address.spells C.Written.reads records.now)) }
+        ensures answer { result ≡ (if too_few (length self.old.nodes.now) (length records.now) D.Address.WIDTH S.Address.WIDTH then Err Places else Ok (nodes_of (rules D.Address.spells S.Address.spells C.Written.reads records.now))) }
+        ensures count { self.new.used ≡ (if too_few (length self.old.nodes.now) (length records.now) D.Address.WIDTH S.Address.WIDTH then self.old.used else nodes_of (rules D.Address.spells S.Address.spells C.Written.reads records.now)) }
         ensures places { length self.new.nodes.now ≡ length self.old.nodes.now }
-        ensures same { too_few (length self.old.nodes.now) (length records.now) D.Address.width S.Address.width ≡ true → self.new.nodes.now ≡ self.old.nodes.now }
-        ensures grid { too_few (length self.old.nodes.now) (length records.now) D.Address.width S.Address.width ≡ false → Apart (rules D.Address.spells S.Address.spells C.Written.reads records.now) → Derived (better C.Cost.order) (rules D.Address.spells S.Address.spells C.Written.reads records.now) self.new.nodes.now self.new.used }
+        ensures same { too_few (length self.old.nodes.now) (length records.now) D.Address.WIDTH S.Address.WIDTH ≡ true → self.new.nodes.now ≡ self.old.nodes.now }
+        ensures grid { too_few (length self.old.nodes.now) (length records.now) D.Address.WIDTH S.Address.WIDTH ≡ false → Apart (rules D.Address.spells S.Address.spells C.Written.reads records.now) → Derived (better C.Cost.order) (rules D.Address.spells S.Address.spells C.Written.reads records.now) self.new.nodes.now self.new.used }
     {
         let needed = places_needed::<D, S>(records.len());
         if self.nodes.len() < needed {
@@ -98,7 +98,7 @@ impl<'m, D: Address, S: Address, C: Cost> Grid<'m, D, S, C> {
     // Builds the grid of the book's filters, and answers how many nodes it uses; the book stays as found. Where the node places
     // are fewer than so many filters may need it is refused before the first write.
     pub fn build(&mut self, book: &Book<D, S, C>) -> Result<u32, BuildFault>
-        ensures answer { result ≡ (if too_few (length self.old.nodes.now) book.now.used D.Address.width S.Address.width then Err Places else Ok (nodes_of (rules D.Address.spells S.Address.spells C.Written.reads (take book.now.used book.now.places.now)))) }
+        ensures answer { result ≡ (if too_few (length self.old.nodes.now) book.now.used D.Address.WIDTH S.Address.WIDTH then Err Places else Ok (nodes_of (rules D.Address.spells S.Address.spells C.Written.reads (take book.now.used book.now.places.now)))) }
         ensures count { self.new.used ≡ after result (nodes_of (rules D.Address.spells S.Address.spells C.Written.reads (take book.now.used book.now.places.now))) self.old.used }
         ensures places { length self.new.nodes.now ≡ length self.old.nodes.now }
         ensures memory { MatchResult result (λ _. Derived (better C.Cost.order) (rules D.Address.spells S.Address.spells C.Written.reads (take book.now.used book.now.places.now)) self.new.nodes.now self.new.used) (λ _. self.new.nodes.now ≡ self.old.nodes.now) }

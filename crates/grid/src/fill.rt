@@ -19,14 +19,14 @@ use kinds::cost::Cost;
 fn insert_record<D: Address, S: Address, C: Cost>(
     nodes: &mut [Node],
     used: &mut u32,
-    records: &[Record<D::Pattern, S::Pattern, C::Pattern>],
-    place: &Record<D::Pattern, S::Pattern, C::Pattern>,
+    records: &[Record<D, S, C>],
+    place: &Record<D, S, C>,
 )
     requires safe { Safe used.old nodes.old }
     requires few { length records.now ≤ 4095 }
-    requires room { (max 1 used.old + (D.Address.width + S.Address.width + 1) ≤ length nodes.old) × (max 1 used.old + (D.Address.width + S.Address.width + 1) < 2 ^ 32) }
+    requires room { (max 1 used.old + (D.Address.WIDTH + S.Address.WIDTH + 1) ≤ length nodes.old) × (max 1 used.old + (D.Address.WIDTH + S.Address.WIDTH + 1) < 2 ^ 32) }
     ensures safe { Safe used.new nodes.new }
-    ensures most { used.new ≤ max 1 used.old + (D.Address.width + S.Address.width + 1) }
+    ensures most { used.new ≤ max 1 used.old + (D.Address.WIDTH + S.Address.WIDTH + 1) }
     ensures grid { (G : List (Rule C)) → ((f : Rule C) → In f G → In f (rules D.Address.spells S.Address.spells C.Written.reads records.now)) → ((f : Rule C) → In f (held D.Address.spells S.Address.spells C.Written.reads place.now) → In f (rules D.Address.spells S.Address.spells C.Written.reads records.now)) → Filled (better C.Cost.order) (rules D.Address.spells S.Address.spells C.Written.reads records.now) G nodes.old used.old → Filled (better C.Cost.order) (rules D.Address.spells S.Address.spells C.Written.reads records.now) (G ++ held D.Address.spells S.Address.spells C.Written.reads place.now) nodes.new used.new }
 {
     let Ok(cost) = C::read(place.cost) else {
@@ -47,12 +47,12 @@ fn insert_record<D: Address, S: Address, C: Cost>(
 pub(crate) fn insert_all<D: Address, S: Address, C: Cost>(
     nodes: &mut [Node],
     used: &mut u32,
-    records: &[Record<D::Pattern, S::Pattern, C::Pattern>],
+    records: &[Record<D, S, C>],
 )
     requires start { used.old ≡ 0 }
     requires bare { nodes.old ≡ replicate (length nodes.old) Empty }
     requires few { length records.now ≤ 4095 }
-    requires room { need (length records.now) D.Address.width S.Address.width ≤ length nodes.old }
+    requires room { need (length records.now) D.Address.WIDTH S.Address.WIDTH ≤ length nodes.old }
     ensures safe { Safe used.new nodes.new }
     ensures grid { Filled (better C.Cost.order) (rules D.Address.spells S.Address.spells C.Written.reads records.now) (rules D.Address.spells S.Address.spells C.Written.reads records.now) nodes.new used.new }
 {

@@ -43,7 +43,7 @@ fn child_from(nodes: &[Node], at: u32, bit: bool) -> u32
 
 // The root of the source trie of a destination string, and that of the longest shorter one on the way to it.
 fn roots_of<A: Address>(nodes: &[Node], path: &Span<A>) -> (Option<u32>, Option<u32>)
-    requires short { path.now.length ≤ A.Address.width }
+    requires short { path.now.length ≤ A.Address.WIDTH }
     ensures { result ≡ roots nodes.now 0 None (spelt A.Address.string path.now) }
 {
     let mut at = 0;
@@ -69,7 +69,7 @@ fn finish_node(nodes: &mut [Node], at: u32, beside: Node, above: Option<Kept>) -
 
 // Finishes the nodes of a source path, from the root of its trie on.
 fn finish_path<A: Address>(nodes: &mut [Node], top: u32, next_to: Node, path: &Span<A>)
-    requires short { path.now.length ≤ A.Address.width }
+    requires short { path.now.length ≤ A.Address.WIDTH }
     ensures { nodes.new ≡ (trek (finish_at nodes.old top next_to None) (spelt A.Address.string path.now)).memory }
 {
     let mut at = top;
@@ -85,7 +85,7 @@ fn finish_path<A: Address>(nodes: &mut [Node], top: u32, next_to: Node, path: &S
 
 // Finishes the source path of a filter.
 fn finish<D: Address, S: Address>(nodes: &mut [Node], to: &Span<D>, from: &Span<S>)
-    requires short { (to.now.length ≤ D.Address.width) × (from.now.length ≤ S.Address.width) }
+    requires short { (to.now.length ≤ D.Address.WIDTH) × (from.now.length ≤ S.Address.WIDTH) }
     ensures { nodes.new ≡ finish_path nodes.old (spelt D.Address.string to.now) (spelt S.Address.string from.now) }
 {
     let (top, last) = roots_of(nodes, to);
@@ -98,7 +98,7 @@ fn finish<D: Address, S: Address>(nodes: &mut [Node], to: &Span<D>, from: &Span<
 // Finishes what a place holds, if it holds a filter whose destination has so many bits.
 fn finish_record<D: Address, S: Address, C: Cost>(
     nodes: &mut [Node],
-    place: &Record<D::Pattern, S::Pattern, C::Pattern>,
+    place: &Record<D, S, C>,
     size: u32,
 )
     ensures { nodes.new ≡ finish_length size nodes.old (held D.Address.spells S.Address.spells C.Written.reads place.now) }
@@ -113,7 +113,7 @@ fn finish_record<D: Address, S: Address, C: Cost>(
 // Finishes the filters whose destination has so many bits.
 fn finish_length<D: Address, S: Address, C: Cost>(
     nodes: &mut [Node],
-    records: &[Record<D::Pattern, S::Pattern, C::Pattern>],
+    records: &[Record<D, S, C>],
     size: u32,
 )
     ensures { nodes.new ≡ finish_length size nodes.old (rules D.Address.spells S.Address.spells C.Written.reads records.now) }
@@ -126,11 +126,11 @@ fn finish_length<D: Address, S: Address, C: Cost>(
 // Finishes all filters, the shorter destinations first.
 pub(crate) fn finish_all<D: Address, S: Address, C: Cost>(
     nodes: &mut [Node],
-    records: &[Record<D::Pattern, S::Pattern, C::Pattern>],
+    records: &[Record<D, S, C>],
 )
-    ensures { nodes.new ≡ finish_below (D.Address.width + 1) nodes.old (rules D.Address.spells S.Address.spells C.Written.reads records.now) }
+    ensures { nodes.new ≡ finish_below (D.Address.WIDTH + 1) nodes.old (rules D.Address.spells S.Address.spells C.Written.reads records.now) }
 {
-    for size in 0..D::width_in_bits() + 1 {
+    for size in 0..D::WIDTH + 1 {
         finish_length::<D, S, C>(nodes, records, size);
     }
 }

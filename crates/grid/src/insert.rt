@@ -56,7 +56,7 @@ fn plant(nodes: &mut [Node], used: &mut u32)
 fn insert_path<A: Address>(nodes: &mut [Node], used: &mut u32, start: u32, path: &Span<A>) -> u32
     requires safe { Safe used.old nodes.old }
     requires start { start < used.old }
-    requires short { path.now.length ≤ A.Address.width }
+    requires short { path.now.length ≤ A.Address.WIDTH }
     requires room { (used.old + path.now.length ≤ length nodes.old) × (used.old + path.now.length < 2 ^ 32) }
     ensures safe { Safe used.new nodes.new }
     ensures found { result < used.new }
@@ -80,10 +80,10 @@ pub(crate) fn insert<D: Address, S: Address>(
     kept: Kept,
 )
     requires safe { Safe used.old nodes.old }
-    requires short { (to.now.length ≤ D.Address.width) × (from.now.length ≤ S.Address.width) }
-    requires room { (max 1 used.old + (D.Address.width + S.Address.width + 1) ≤ length nodes.old) × (max 1 used.old + (D.Address.width + S.Address.width + 1) < 2 ^ 32) }
+    requires short { (to.now.length ≤ D.Address.WIDTH) × (from.now.length ≤ S.Address.WIDTH) }
+    requires room { (max 1 used.old + (D.Address.WIDTH + S.Address.WIDTH + 1) ≤ length nodes.old) × (max 1 used.old + (D.Address.WIDTH + S.Address.WIDTH + 1) < 2 ^ 32) }
     ensures safe { Safe used.new nodes.new }
-    ensures most { used.new ≤ max 1 used.old + (D.Address.width + S.Address.width + 1) }
+    ensures most { used.new ≤ max 1 used.old + (D.Address.WIDTH + S.Address.WIDTH + 1) }
     ensures grid { (own : Str → Str → Option Kept) (keys : List Key) → State own keys nodes.old used.old → Inserted own keys (spelt D.Address.string to.now) (spelt S.Address.string from.now) kept nodes.new used.new }
 {
     plant(nodes, used);

@@ -69,11 +69,11 @@ fn descend_noted<D: Address>(nodes: &[Node], destination: &D, trail: &mut [u32])
     requires linked { sound (length nodes.now) nodes.now ≡ true }
     ensures end { result ≡ along (step_down nodes.now) (entered nodes.now None 0 0) (D.Address.string destination.now) }
     ensures inside { within (length nodes.now) result.root ≡ true }
-    ensures few { result.visits ≤ 1 + D.Address.width }
+    ensures few { result.visits ≤ 1 + D.Address.WIDTH }
     ensures notes { trail.new ≡ sets trail.old 0 (places_down nodes.now (entered nodes.now None 0 0) (D.Address.string destination.now)) }
 {
     let mut descent = Descent::start_noted(nodes, trail);
-    for i in 0..D::width_in_bits() {
+    for i in 0..D::WIDTH {
         match descent.step_noted(nodes, destination, i, trail) {
             Some(next) => {
                 descent = next;
@@ -134,11 +134,11 @@ fn follow_noted<S: Address>(
     requires linked { sound (length nodes.now) nodes.now ≡ true }
     requires few { before ≤ 129 }
     ensures end { result ≡ along (step_on nodes.now) (met nodes.now None 0 root) (S.Address.string source.now) }
-    ensures few { result.visits ≤ 1 + S.Address.width }
+    ensures few { result.visits ≤ 1 + S.Address.WIDTH }
     ensures notes { trail.new ≡ sets trail.old before (places_on nodes.now (met nodes.now None 0 root) (S.Address.string source.now)) }
 {
     let mut walk = Walk::start_noted(nodes, root, before, trail);
-    for i in 0..S::width_in_bits() {
+    for i in 0..S::WIDTH {
         match walk.step_noted(nodes, source, i, before, trail) {
             Some(next) => {
                 walk = next;
@@ -159,7 +159,7 @@ impl<'m, D: Address, S: Address, C: Cost> Grid<'m, D, S, C> {
     ) -> (Option<(u16, Directive)>, u32)
         ensures best { (F : List (Rule C)) → Apart F → Derived (better C.Cost.order) F self.now.nodes.now self.now.used → result.0 ≡ named (linear (better C.Cost.order) F (D.Address.string destination.now) (S.Address.string source.now)) }
         ensures visits { (F : List (Rule C)) → Derived (better C.Cost.order) F self.now.nodes.now self.now.used → result.1 ≡ visits F (D.Address.string destination.now) (S.Address.string source.now) }
-        ensures notes { (F : List (Rule C)) → (g : Derived (better C.Cost.order) F self.now.nodes.now self.now.used) → D.Address.width + S.Address.width + 2 ≤ length trail.old → Noted g.keys F (D.Address.string destination.now) (S.Address.string source.now) trail.old trail.new }
+        ensures notes { (F : List (Rule C)) → (g : Derived (better C.Cost.order) F self.now.nodes.now self.now.used) → D.Address.WIDTH + S.Address.WIDTH + 2 ≤ length trail.old → Noted g.keys F (D.Address.string destination.now) (S.Address.string source.now) trail.old trail.new }
     {
         if self.used == 0 {
             return (None, 0);

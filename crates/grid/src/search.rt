@@ -62,10 +62,10 @@ fn descend<D: Address>(nodes: &[Node], destination: &D) -> Descent
     requires linked { sound (length nodes.now) nodes.now ≡ true }
     ensures end { result ≡ along (step_down nodes.now) (entered nodes.now None 0 0) (D.Address.string destination.now) }
     ensures inside { within (length nodes.now) result.root ≡ true }
-    ensures few { result.visits ≤ 1 + D.Address.width }
+    ensures few { result.visits ≤ 1 + D.Address.WIDTH }
 {
     let mut descent = Descent::visit(nodes, 0, None, 0);
-    for i in 0..D::width_in_bits() {
+    for i in 0..D::WIDTH {
         match descent.step(nodes, destination, i) {
             Some(next) => {
                 descent = next;
@@ -119,10 +119,10 @@ fn follow<S: Address>(nodes: &[Node], root: u32, source: &S) -> Walk
     requires inside { root < length nodes.now }
     requires linked { sound (length nodes.now) nodes.now ≡ true }
     ensures end { result ≡ along (step_on nodes.now) (met nodes.now None 0 root) (S.Address.string source.now) }
-    ensures few { result.visits ≤ 1 + S.Address.width }
+    ensures few { result.visits ≤ 1 + S.Address.WIDTH }
 {
     let mut walk = Walk::visit(nodes, root, None, 0);
-    for i in 0..S::width_in_bits() {
+    for i in 0..S::WIDTH {
         match walk.step(nodes, source, i) {
             Some(next) => {
                 walk = next;

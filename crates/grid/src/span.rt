@@ -16,11 +16,11 @@ pub(crate) struct Span<A> {
 
 // The bits of a prefix that is kept as a pattern.
 pub(crate) fn span_of<A: Address>(prefix: Prefix<A::Pattern>) -> Span<A>
-    ensures short { result.length ≤ A.Address.width }
+    ensures short { result.length ≤ A.Address.WIDTH }
     ensures string { spelt A.Address.string result ≡ prefix_of A.Address.spells prefix }
     ensures size { result.length ≡ length (prefix_of A.Address.spells prefix) }
 {
-    let width = A::width_in_bits();
+    let width = A::WIDTH;
     let length = prefix.length as u32;
     Span {
         address: A::of(prefix.address),

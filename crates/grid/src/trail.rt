@@ -34,9 +34,9 @@ impl TrailFault {
 
 // The places that are enough for every trail: a node for each bit of both addresses, and both roots.
 fn trail_need<D: Address, S: Address>() -> usize
-    ensures { result ≡ D.Address.width + S.Address.width + 2 }
+    ensures { result ≡ D.Address.WIDTH + S.Address.WIDTH + 2 }
 {
-    (D::width_in_bits() + S::width_in_bits() + 2) as usize
+    (D::WIDTH + S::WIDTH + 2) as usize
 }
 
 impl<'m, D: Address, S: Address, C: Cost> Grid<'m, D, S, C> {
@@ -48,9 +48,9 @@ impl<'m, D: Address, S: Address, C: Cost> Grid<'m, D, S, C> {
         source: &S,
         trail: &mut [u32],
     ) -> Result<(Option<(u16, Directive)>, u32), TrailFault>
-        ensures refused { MatchResult result (λ _. D.Address.width + S.Address.width + 2 ≤ length trail.old) (λ e. (e ≡ Places) × (length trail.old < D.Address.width + S.Address.width + 2) × (trail.new ≡ trail.old)) }
+        ensures refused { MatchResult result (λ _. D.Address.WIDTH + S.Address.WIDTH + 2 ≤ length trail.old) (λ e. (e ≡ Places) × (length trail.old < D.Address.WIDTH + S.Address.WIDTH + 2) × (trail.new ≡ trail.old)) }
         ensures places { length trail.new ≡ length trail.old }
-        ensures answer { (F : List (Rule C)) → Apart F → Derived (better C.Cost.order) F self.now.nodes.now self.now.used → result ≡ trail_verdict (length trail.old) D.Address.width S.Address.width (named (linear (better C.Cost.order) F (D.Address.string destination.now) (S.Address.string source.now)), visits F (D.Address.string destination.now) (S.Address.string source.now)) }
+        ensures answer { (F : List (Rule C)) → Apart F → Derived (better C.Cost.order) F self.now.nodes.now self.now.used → result ≡ trail_verdict (length trail.old) D.Address.WIDTH S.Address.WIDTH (named (linear (better C.Cost.order) F (D.Address.string destination.now) (S.Address.string source.now)), visits F (D.Address.string destination.now) (S.Address.string source.now)) }
         ensures memory { (F : List (Rule C)) → (g : Derived (better C.Cost.order) F self.now.nodes.now self.now.used) → Trailed g.keys F (D.Address.string destination.now) (S.Address.string source.now) trail.old trail.new result }
     {
         if trail.len() < trail_need::<D, S>() {

@@ -1,6 +1,6 @@
 // What memory holds before anyone writes it: here, records and nodes that would mislead whoever trusted them.
 use filters::directive::Directive;
-use filters::filter::{Prefix, Record};
+use filters::filter::{Filter, Prefix};
 use grid::node::{Kept, Node};
 
 // A source node with both children, both switches and a kept filter that nothing beats.
@@ -19,11 +19,11 @@ pub(crate) fn node() -> Node {
 }
 
 // A record that matches everything at no cost, under a label that the tests use.
-pub(crate) fn record<A>(address: A) -> Record<A, A, u32>
+pub(crate) fn record<A>(address: A) -> Filter<A, A, u32>
 where
     A: Copy,
 {
-    Record {
+    Filter {
         label: 1,
         destination: Prefix { address, length: 0 },
         source: Prefix { address, length: 0 },

@@ -14,8 +14,8 @@ const SOCKET: &str = "1001100001000110";
 
 // Whether the address has just these bits, as many as its kind is wide, and 0 behind them.
 fn spells<A: Address>(rt: &impl Abort, address: &A, text: &str) {
-    assert_eq!(rt; A::width_in_bits() as usize, text.len());
-    for i in 0..A::width_in_bits() {
+    assert_eq!(rt; A::WIDTH as usize, text.len());
+    for i in 0..A::WIDTH {
         assert_eq!(rt;
             address.bit(i),
             text.as_bytes().get(i as usize) == Some(&b'1'),
@@ -23,7 +23,7 @@ fn spells<A: Address>(rt: &impl Abort, address: &A, text: &str) {
             i
         );
     }
-    for i in [A::width_in_bits(), 129, 255, 256, 0x8000_0000, u32::MAX] {
+    for i in [A::WIDTH, 129, 255, 256, 0x8000_0000, u32::MAX] {
         assert_eq!(rt; address.bit(i), false, "{}", i);
     }
 }

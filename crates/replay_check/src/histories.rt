@@ -22,11 +22,11 @@ fn install_all<'t, D: Address, S: Address, C: Cost>(
 
 // Compares the lookups of all pairs of addresses by their first 8 bits, each in the memory that the last one left.
 fn compare<D: Address, S: Address, C: Cost>(
-    places: &mut [Record<D::Pattern, S::Pattern, C::Pattern>],
+    places: &mut [Record<D, S, C>],
     nodes: &mut [Node],
     trail: &mut [u32],
     calls: &[Call<D, S, C>],
-    other_places: &mut [Record<D::Pattern, S::Pattern, C::Pattern>],
+    other_places: &mut [Record<D, S, C>],
     other_nodes: &mut [Node],
     other_trail: &mut [u32],
     other_calls: &[Call<D, S, C>],
@@ -55,10 +55,10 @@ fn compare<D: Address, S: Address, C: Cost>(
 // Compares the lookups behind a long table and then a short one with those behind the short one alone.
 pub(crate) fn compare_tables<D: Address, S: Address, C: Cost>(
     heap: Global,
-    places: &mut [Record<D::Pattern, S::Pattern, C::Pattern>],
+    places: &mut [Record<D, S, C>],
     nodes: &mut [Node],
     trail: &mut [u32],
-    other_places: &mut [Record<D::Pattern, S::Pattern, C::Pattern>],
+    other_places: &mut [Record<D, S, C>],
     other_nodes: &mut [Node],
     other_trail: &mut [u32],
     long: &[u8],

@@ -41,7 +41,7 @@ pub fn behind(length: u32) -> u32 {
 
 // A prefix of an address of at most 32 bits.
 fn draw_prefix<A: Address>(generator: &mut Generator) -> Prefix<A> {
-    let width = A::width_in_bits().min(32);
+    let width = A::WIDTH.min(32);
     let length = generator.draw() % (width + 1);
     let bits = generator.draw() & !behind(length);
     Prefix {

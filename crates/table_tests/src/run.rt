@@ -1,6 +1,6 @@
 // Runs the cases: each is loaded, and written again.
 use filters::directive::Directive;
-use filters::filter::{Prefix, Record};
+use filters::filter::{Filter, Prefix};
 use kinds::address::Address;
 use kinds::cost::Cost;
 use kinds::ipv4::Ipv4;
@@ -40,7 +40,7 @@ fn turns<D: Address, S: Address, C: Cost>(
     table: &[u8],
     capacity: usize,
 ) -> Result<bool, AllocError> {
-    let empty = Record {
+    let empty = Filter {
         label: 0,
         destination: Prefix {
             address: D::Pattern::narrow(0),

@@ -4,7 +4,7 @@ mod tests {
     use crate::run::bytes;
     use filters::convert::to_record;
     use filters::directive::Directive;
-    use filters::filter::{Filter, Prefix, Record};
+    use filters::filter::{Filter, Prefix};
     use kinds::ipv4::Ipv4;
     use kinds::rank::Rank;
     use std::test::Fail;
@@ -12,7 +12,7 @@ mod tests {
     use tables::load::load_table;
     use tables::write::write_table;
 
-    const JUNK: Record<u32, u32, u32> = Record {
+    const JUNK: Filter<u32, u32, u32> = Filter {
         label: 77,
         destination: Prefix {
             address: 0xdead_beef,
@@ -31,7 +31,7 @@ mod tests {
 
     // What a place holds.
     fn is_at(
-        place: &Record<u32, u32, u32>,
+        place: &Filter<u32, u32, u32>,
         label: u16,
         destination: (u32, u8),
         source: (u32, u8),
@@ -47,7 +47,7 @@ mod tests {
             && place.directive == directive
     }
 
-    fn is_junk(place: &Record<u32, u32, u32>) -> bool {
+    fn is_junk(place: &Filter<u32, u32, u32>) -> bool {
         is_at(
             place,
             77,

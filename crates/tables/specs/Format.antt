@@ -1,7 +1,7 @@
 -- The byte format of a table: a head, then records, fields packed without gaps, the most significant bit first.
 -- Reading and writing are two definitions apart; that they are inverse is proved of them.
 use Rattle.std.specs.Prelude.{ℕ, zero, suc, ◌+◌, ◌*◌, ◌/◌, List, [], ◌∷◌, ◌++◌, length, take, drop}
-use Rattle.filters.specs.declared.filter.Record.{Record}
+use Rattle.filters.specs.Meaning.{Record}
 use Rattle.filters.specs.Meaning.{respelt}
 use Rattle.tables.specs.Bytes.{word, spelt, total, numbers, spell, fields, pack, nth}
 use Rattle.tables.specs.Directives.{directive_number, directive_of}

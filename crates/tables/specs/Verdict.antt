@@ -5,7 +5,7 @@ use Rattle.kinds.specs.Strings.{bits}
 use Rattle.kinds.specs.declared.written.PatternFault.TheVariants.{Unlawful}
 use Rattle.filters.specs.declared.fault.FilterFault.{FilterFault}
 use Rattle.filters.specs.declared.fault.FilterFault.TheVariants.{ZeroLabel}
-use Rattle.filters.specs.declared.filter.Record.{Record}
+use Rattle.filters.specs.Meaning.{Record}
 use Rattle.filters.specs.Refusals.{body_verdict, then_used}
 use Rattle.tables.specs.declared.fault.RecordFault.{RecordFault}
 use Rattle.tables.specs.declared.fault.RecordFault.TheVariants.{Filter, Pattern}

@@ -13,7 +13,7 @@ use crate::record::{label_of, read_record, record_size};
 use filters::check::check_body;
 use filters::directive::Directive;
 use filters::fault::FilterFault;
-use filters::filter::{Prefix, Record};
+use filters::filter::{Filter, Prefix, Record};
 use kinds::address::Address;
 use kinds::cost::Cost;
 use kinds::written::Written;
@@ -24,7 +24,7 @@ fn check_prefixes<D: Address, S: Address>(
     source: &Prefix<S::Pattern>,
     directive: Directive,
 ) -> Result<(), FilterFault>
-    ensures { result ≡ body_verdict (bits D.Written.size) (bits S.Written.size) D.Written.size S.Written.size (respelt D.Written.number destination.now) (respelt S.Written.number source.now) directive }
+    ensures { result ≡ body_verdict (bits D.Written.SIZE) (bits S.Written.SIZE) D.Written.SIZE S.Written.SIZE (respelt D.Written.number destination.now) (respelt S.Written.number source.now) directive }
 {
     let first = Prefix {
         address: D::of(destination.address),
@@ -39,11 +39,11 @@ fn check_prefixes<D: Address, S: Address>(
 
 // The first refusal of a record; `used` says whether its label is in use already.
 fn check_record<D: Address, S: Address, C: Cost>(
-    place: &Record<D::Pattern, S::Pattern, C::Pattern>,
+    place: &Record<D, S, C>,
     used: bool,
 ) -> Result<(), RecordFault>
-    ensures answer { (lawful : ℕ → Bool) → Tells C.Written.number C.Written.reads lawful → result ≡ entry_verdict (kind D.Written.code D.Written.size) (kind S.Written.code S.Written.size) (kind C.Written.code C.Written.size) lawful used (entry_of D.Written.number S.Written.number C.Written.number place.now) }
-    ensures passed { OnOk result (entry_verdict (kind D.Written.code D.Written.size) (kind S.Written.code S.Written.size) (kind C.Written.code C.Written.size) (λ _. true) used (entry_of D.Written.number S.Written.number C.Written.number place.now) ≡ Ok tt) }
+    ensures answer { (lawful : ℕ → Bool) → Tells C.Written.number C.Written.reads lawful → result ≡ entry_verdict (kind D.Written.CODE D.Written.SIZE) (kind S.Written.CODE S.Written.SIZE) (kind C.Written.CODE C.Written.SIZE) lawful used (entry_of D.Written.number S.Written.number C.Written.number place.now) }
+    ensures passed { OnOk result (entry_verdict (kind D.Written.CODE D.Written.SIZE) (kind S.Written.CODE S.Written.SIZE) (kind C.Written.CODE C.Written.SIZE) (λ _. true) used (entry_of D.Written.number S.Written.number C.Written.number place.now) ≡ Ok tt) }
 {
     if place.label == 0 {
         return Err(RecordFault::Filter(FilterFault::ZeroLabel));
@@ -58,7 +58,7 @@ fn check_record<D: Address, S: Address, C: Cost>(
 
 // Whether one of the records has the label.
 fn is_label_in<D: Address, S: Address, C: Cost>(records: &[u8], label: u16) -> bool
-    ensures { result ≡ has label (labels (entries (kind D.Written.code D.Written.size) (kind S.Written.code S.Written.size) (kind C.Written.code C.Written.size) records.now)) }
+    ensures { result ≡ has label (labels (entries (kind D.Written.CODE D.Written.SIZE) (kind S.Written.CODE S.Written.SIZE) (kind C.Written.CODE C.Written.SIZE) records.now)) }
 {
     records
         .chunks_exact(record_size::<D, S, C>())
@@ -78,9 +78,9 @@ fn in_record(i: usize, answer: Result<(), RecordFault>) -> Result<(), InRecord>
 
 // The first refusal of records, if there is one.
 fn check_records<D: Address, S: Address, C: Cost>(records: &[u8]) -> Result<(), InRecord>
-    requires { length (entries (kind D.Written.code D.Written.size) (kind S.Written.code S.Written.size) (kind C.Written.code C.Written.size) records.now) ≤ 4095 }
-    ensures answer { (lawful : ℕ → Bool) → Tells C.Written.number C.Written.reads lawful → behind_records (length (entries (kind D.Written.code D.Written.size) (kind S.Written.code S.Written.size) (kind C.Written.code C.Written.size) records.now)) result ≡ entries_verdict (kind D.Written.code D.Written.size) (kind S.Written.code S.Written.size) (kind C.Written.code C.Written.size) lawful [] (entries (kind D.Written.code D.Written.size) (kind S.Written.code S.Written.size) (kind C.Written.code C.Written.size) records.now) }
-    ensures passed { OnOk result (entries_verdict (kind D.Written.code D.Written.size) (kind S.Written.code S.Written.size) (kind C.Written.code C.Written.size) (λ _. true) [] (entries (kind D.Written.code D.Written.size) (kind S.Written.code S.Written.size) (kind C.Written.code C.Written.size) records.now) ≡ Ok (length (entries (kind D.Written.code D.Written.size) (kind S.Written.code S.Written.size) (kind C.Written.code C.Written.size) records.now))) }
+    requires { length (entries (kind D.Written.CODE D.Written.SIZE) (kind S.Written.CODE S.Written.SIZE) (kind C.Written.CODE C.Written.SIZE) records.now) ≤ 4095 }
+    ensures answer { (lawful : ℕ → Bool) → Tells C.Written.number C.Written.reads lawful → behind_records (length (entries (kind D.Written.CODE D.Written.SIZE) (kind S.Written.CODE S.Written.SIZE) (kind C.Written.CODE C.Written.SIZE) records.now)) result ≡ entries_verdict (kind D.Written.CODE D.Written.SIZE) (kind S.Written.CODE S.Written.SIZE) (kind C.Written.CODE C.Written.SIZE) lawful [] (entries (kind D.Written.CODE D.Written.SIZE) (kind S.Written.CODE S.Written.SIZE) (kind C.Written.CODE C.Written.SIZE) records.now) }
+    ensures passed { OnOk result (entries_verdict (kind D.Written.CODE D.Written.SIZE) (kind S.Written.CODE S.Written.SIZE) (kind C.Written.CODE C.Written.SIZE) (λ _. true) [] (entries (kind D.Written.CODE D.Written.SIZE) (kind S.Written.CODE S.Written.SIZE) (kind C.Written.CODE C.Written.SIZE) records.now) ≡ Ok (length (entries (kind D.Written.CODE D.Written.SIZE) (kind S.Written.CODE S.Written.SIZE) (kind C.Written.CODE C.Written.SIZE) records.now))) }
 {
     let size = record_size::<D, S, C>();
     for (i, record) in records.chunks_exact(size).enumerate() {
@@ -96,16 +96,16 @@ fn check_head<D: Address, S: Address, C: Cost>(
     bytes: &[u8],
     capacity: usize,
 ) -> Result<usize, HeadFault>
-    ensures { result ≡ head_verdict (kind D.Written.code D.Written.size) (kind S.Written.code S.Written.size) (kind C.Written.code C.Written.size) capacity bytes.now }
+    ensures { result ≡ head_verdict (kind D.Written.CODE D.Written.SIZE) (kind S.Written.CODE S.Written.SIZE) (kind C.Written.CODE C.Written.SIZE) capacity bytes.now }
 {
     if bytes.len() < 4 {
         return Err(HeadFault::Short);
     }
     let head = Head::from(number_of(&bytes[..4]) as u32);
     if head.edition != 1
-        || head.destination != D::kind()
-        || head.source != S::kind()
-        || head.cost != C::kind()
+        || head.destination != D::CODE
+        || head.source != S::CODE
+        || head.cost != C::CODE
     {
         return Err(HeadFault::Kind);
     }
@@ -126,8 +126,8 @@ pub fn check_table<D: Address, S: Address, C: Cost>(
     bytes: &[u8],
     capacity: usize,
 ) -> Result<usize, LoadFault>
-    ensures answer { (lawful : ℕ → Bool) → Tells C.Written.number C.Written.reads lawful → result ≡ table_verdict (kind D.Written.code D.Written.size) (kind S.Written.code S.Written.size) (kind C.Written.code C.Written.size) lawful capacity bytes.now }
-    ensures accepted { IfOk result (λ n. (n ≡ filter_count bytes.now) × (length bytes.now ≡ table_size (kind D.Written.code D.Written.size) (kind S.Written.code S.Written.size) (kind C.Written.code C.Written.size) n) × (n ≤ capacity) × (table_verdict (kind D.Written.code D.Written.size) (kind S.Written.code S.Written.size) (kind C.Written.code C.Written.size) (λ _. true) capacity bytes.now ≡ Ok n)) }
+    ensures answer { (lawful : ℕ → Bool) → Tells C.Written.number C.Written.reads lawful → result ≡ table_verdict (kind D.Written.CODE D.Written.SIZE) (kind S.Written.CODE S.Written.SIZE) (kind C.Written.CODE C.Written.SIZE) lawful capacity bytes.now }
+    ensures accepted { IfOk result (λ n. (n ≡ filter_count bytes.now) × (length bytes.now ≡ table_size (kind D.Written.CODE D.Written.SIZE) (kind S.Written.CODE S.Written.SIZE) (kind C.Written.CODE C.Written.SIZE) n) × (n ≤ capacity) × (table_verdict (kind D.Written.CODE D.Written.SIZE) (kind S.Written.CODE S.Written.SIZE) (kind C.Written.CODE C.Written.SIZE) (λ _. true) capacity bytes.now ≡ Ok n)) }
 {
     let count = check_head::<D, S, C>(bytes, capacity)?;
     check_records::<D, S, C>(&bytes[4..])?;

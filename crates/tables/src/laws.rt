@@ -10,10 +10,10 @@ use kinds::cost::Cost;
 // A table written and read back is the same list of filters: the table of lawful filters with distinct labels is accepted
 // where there is room for them, and its entries are those of the filters, in their order.
 pub fn reads_back<D: Address, S: Address, C: Cost>()
-    ensures { (lawful : ℕ → Bool) → Tells C.Written.number C.Written.reads lawful → ReadsBack (kind D.Written.code D.Written.size) (kind S.Written.code S.Written.size) (kind C.Written.code C.Written.size) lawful D.Address.string S.Address.string D.Address.width S.Address.width (filed D.Written.pattern S.Written.pattern C.Written.pattern D.Written.number S.Written.number C.Written.number) }
+    ensures { (lawful : ℕ → Bool) → Tells C.Written.number C.Written.reads lawful → ReadsBack (kind D.Written.CODE D.Written.SIZE) (kind S.Written.CODE S.Written.SIZE) (kind C.Written.CODE C.Written.SIZE) lawful D.Address.string S.Address.string D.Address.WIDTH S.Address.WIDTH (filed D.Written.pattern S.Written.pattern C.Written.pattern D.Written.number S.Written.number C.Written.number) }
 {}
 
 // An accepted table written again has the same bytes.
 pub fn writes_back<D: Address, S: Address, C: Cost>()
-    ensures { (lawful : ℕ → Bool) → WritesBack (kind D.Written.code D.Written.size) (kind S.Written.code S.Written.size) (kind C.Written.code C.Written.size) lawful }
+    ensures { (lawful : ℕ → Bool) → WritesBack (kind D.Written.CODE D.Written.SIZE) (kind S.Written.CODE S.Written.SIZE) (kind C.Written.CODE C.Written.SIZE) lawful }
 {}

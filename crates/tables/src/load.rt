@@ -14,11 +14,11 @@ use kinds::cost::Cost;
 // Puts records into the first places; those behind stay.
 fn read_records<D: Address, S: Address, C: Cost>(
     records: &[u8],
-    places: &mut [Record<D::Pattern, S::Pattern, C::Pattern>],
+    places: &mut [Record<D, S, C>],
 )
-    requires { length (entries (kind D.Written.code D.Written.size) (kind S.Written.code S.Written.size) (kind C.Written.code C.Written.size) records.now) ≤ length places.old }
-    ensures read { map (entry_of D.Written.number S.Written.number C.Written.number) (take (length (entries (kind D.Written.code D.Written.size) (kind S.Written.code S.Written.size) (kind C.Written.code C.Written.size) records.now)) places.new) ≡ entries (kind D.Written.code D.Written.size) (kind S.Written.code S.Written.size) (kind C.Written.code C.Written.size) records.now }
-    ensures kept { drop (length (entries (kind D.Written.code D.Written.size) (kind S.Written.code S.Written.size) (kind C.Written.code C.Written.size) records.now)) places.new ≡ drop (length (entries (kind D.Written.code D.Written.size) (kind S.Written.code S.Written.size) (kind C.Written.code C.Written.size) records.now)) places.old }
+    requires { length (entries (kind D.Written.CODE D.Written.SIZE) (kind S.Written.CODE S.Written.SIZE) (kind C.Written.CODE C.Written.SIZE) records.now) ≤ length places.old }
+    ensures read { map (entry_of D.Written.number S.Written.number C.Written.number) (take (length (entries (kind D.Written.CODE D.Written.SIZE) (kind S.Written.CODE S.Written.SIZE) (kind C.Written.CODE C.Written.SIZE) records.now)) places.new) ≡ entries (kind D.Written.CODE D.Written.SIZE) (kind S.Written.CODE S.Written.SIZE) (kind C.Written.CODE C.Written.SIZE) records.now }
+    ensures kept { drop (length (entries (kind D.Written.CODE D.Written.SIZE) (kind S.Written.CODE S.Written.SIZE) (kind C.Written.CODE C.Written.SIZE) records.now)) places.new ≡ drop (length (entries (kind D.Written.CODE D.Written.SIZE) (kind S.Written.CODE S.Written.SIZE) (kind C.Written.CODE C.Written.SIZE) records.now)) places.old }
 {
     let size = record_size::<D, S, C>();
     // `places[i]` and no `zip`: of places lent to an `iter_mut` in a `zip` the loop's proof has no name, and it does not close.
@@ -31,12 +31,12 @@ fn read_records<D: Address, S: Address, C: Cost>(
 // answer is how many they are; refused, all places stay.
 pub fn load_table<D: Address, S: Address, C: Cost>(
     bytes: &[u8],
-    places: &mut [Record<D::Pattern, S::Pattern, C::Pattern>],
+    places: &mut [Record<D, S, C>],
 ) -> Result<usize, LoadFault>
-    ensures answer { (lawful : ℕ → Bool) → Tells C.Written.number C.Written.reads lawful → result ≡ table_verdict (kind D.Written.code D.Written.size) (kind S.Written.code S.Written.size) (kind C.Written.code C.Written.size) lawful (length places.old) bytes.now }
-    ensures accepted { IfOk result (λ n. table_verdict (kind D.Written.code D.Written.size) (kind S.Written.code S.Written.size) (kind C.Written.code C.Written.size) (λ _. true) (length places.old) bytes.now ≡ Ok n) }
-    ensures labels { OnOk result (Labelled (decode (kind D.Written.code D.Written.size) (kind S.Written.code S.Written.size) (kind C.Written.code C.Written.size) bytes.now)) }
-    ensures memory { Loaded (entry_of D.Written.number S.Written.number C.Written.number) (decode (kind D.Written.code D.Written.size) (kind S.Written.code S.Written.size) (kind C.Written.code C.Written.size) bytes.now) places.old places.new result }
+    ensures answer { (lawful : ℕ → Bool) → Tells C.Written.number C.Written.reads lawful → result ≡ table_verdict (kind D.Written.CODE D.Written.SIZE) (kind S.Written.CODE S.Written.SIZE) (kind C.Written.CODE C.Written.SIZE) lawful (length places.old) bytes.now }
+    ensures accepted { IfOk result (λ n. table_verdict (kind D.Written.CODE D.Written.SIZE) (kind S.Written.CODE S.Written.SIZE) (kind C.Written.CODE C.Written.SIZE) (λ _. true) (length places.old) bytes.now ≡ Ok n) }
+    ensures labels { OnOk result (Labelled (decode (kind D.Written.CODE D.Written.SIZE) (kind S.Written.CODE S.Written.SIZE) (kind C.Written.CODE C.Written.SIZE) bytes.now)) }
+    ensures memory { Loaded (entry_of D.Written.number S.Written.number C.Written.number) (decode (kind D.Written.CODE D.Written.SIZE) (kind S.Written.CODE S.Written.SIZE) (kind C.Written.CODE C.Written.SIZE) bytes.now) places.old places.new result }
 {
     let count = check_table::<D, S, C>(bytes, places.len())?;
     read_records::<D, S, C>(&bytes[4..], places);

@@ -30,7 +30,7 @@ pub(crate) fn put_number(buffer: &mut [u8], n: u128)
 
 // The pattern of a kind that the bytes are.
 pub(crate) fn pattern_of<W: Written>(bytes: &[u8]) -> W::Pattern
-    requires { length bytes.now ≡ W.Written.size / 8 }
+    requires { length bytes.now ≡ W.Written.SIZE / 8 }
     ensures { W.Written.number result ≡ word bytes.now }
 {
     W::Pattern::narrow(number_of(bytes))
@@ -38,8 +38,8 @@ pub(crate) fn pattern_of<W: Written>(bytes: &[u8]) -> W::Pattern
 
 // Writes a pattern.
 pub(crate) fn put_pattern<W: Written>(buffer: &mut [u8], pattern: W::Pattern)
-    requires { length buffer.old ≡ W.Written.size / 8 }
-    ensures { buffer.new ≡ spelt (W.Written.size / 8) (W.Written.number pattern) }
+    requires { length buffer.old ≡ W.Written.SIZE / 8 }
+    ensures { buffer.new ≡ spelt (W.Written.SIZE / 8) (W.Written.number pattern) }
 {
     put_number(buffer, pattern.wide());
 }

@@ -5,22 +5,22 @@ ghost use Rattle.tables.specs.Format.{kind, entry_of, record_size, decode_record
 
 use crate::field::{pack_directive, unpack_directive};
 use crate::number::{number_of, pattern_of, put_number, put_pattern};
-use filters::filter::{Prefix, Record};
+use filters::filter::{Filter, Prefix, Record};
 use kinds::address::Address;
 use kinds::cost::Cost;
 use kinds::written::Written;
 
 // How many bytes a pattern of the kind has.
 fn bytes_of<W: Written>() -> usize
-    ensures size { result ≡ W.Written.size / 8 }
+    ensures size { result ≡ W.Written.SIZE / 8 }
     ensures short { result ≤ 16 }
 {
-    W::size_in_bits() as usize / 8
+    W::SIZE as usize / 8
 }
 
 // How many bytes a record has.
 pub(crate) fn record_size<D: Address, S: Address, C: Cost>() -> usize
-    ensures size { result ≡ record_size (kind D.Written.code D.Written.size) (kind S.Written.code S.Written.size) (kind C.Written.code C.Written.size) }
+    ensures size { result ≡ record_size (kind D.Written.CODE D.Written.SIZE) (kind S.Written.CODE S.Written.SIZE) (kind C.Written.CODE C.Written.SIZE) }
     ensures short { result ≤ 56 }
 {
     8 + bytes_of::<D>() + bytes_of::<S>() + bytes_of::<C>()
@@ -37,9 +37,9 @@ pub(crate) fn label_of(record: &[u8]) -> u16
 // The record that the bytes are.
 pub(crate) fn read_record<D: Address, S: Address, C: Cost>(
     record: &[u8],
-) -> Record<D::Pattern, S::Pattern, C::Pattern>
-    requires { length record.now ≡ record_size (kind D.Written.code D.Written.size) (kind S.Written.code S.Written.size) (kind C.Written.code C.Written.size) }
-    ensures { entry_of D.Written.number S.Written.number C.Written.number result ≡ decode_record (kind D.Written.code D.Written.size) (kind S.Written.code S.Written.size) (kind C.Written.code C.Written.size) record.now }
+) -> Record<D, S, C>
+    requires { length record.now ≡ record_size (kind D.Written.CODE D.Written.SIZE) (kind S.Written.CODE S.Written.SIZE) (kind C.Written.CODE C.Written.SIZE) }
+    ensures { entry_of D.Written.number S.Written.number C.Written.number result ≡ decode_record (kind D.Written.CODE D.Written.SIZE) (kind S.Written.CODE S.Written.SIZE) (kind C.Written.CODE C.Written.SIZE) record.now }
 {
     let (label, rest) = record.split_at(2);
     let (destination_length, rest) = rest.split_at(1);
@@ -47,7 +47,7 @@ pub(crate) fn read_record<D: Address, S: Address, C: Cost>(
     let (source_length, rest) = rest.split_at(1);
     let (source, rest) = rest.split_at(bytes_of::<S>());
     let (cost, directive) = rest.split_at(bytes_of::<C>());
-    Record {
+    Filter {
         label: number_of(label) as u16,
         destination: Prefix {
             length: number_of(destination_length) as u8,
@@ -65,10 +65,10 @@ pub(crate) fn read_record<D: Address, S: Address, C: Cost>(
 // Writes a record into its bytes.
 pub(crate) fn put_record<D: Address, S: Address, C: Cost>(
     record: &mut [u8],
-    place: &Record<D::Pattern, S::Pattern, C::Pattern>,
+    place: &Record<D, S, C>,
 )
-    requires { length record.old ≡ record_size (kind D.Written.code D.Written.size) (kind S.Written.code S.Written.size) (kind C.Written.code C.Written.size) }
-    ensures { record.new ≡ encode_record (kind D.Written.code D.Written.size) (kind S.Written.code S.Written.size) (kind C.Written.code C.Written.size) (entry_of D.Written.number S.Written.number C.Written.number place.now) }
+    requires { length record.old ≡ record_size (kind D.Written.CODE D.Written.SIZE) (kind S.Written.CODE S.Written.SIZE) (kind C.Written.CODE C.Written.SIZE) }
+    ensures { record.new ≡ encode_record (kind D.Written.CODE D.Written.SIZE) (kind S.Written.CODE S.Written.SIZE) (kind C.Written.CODE C.Written.SIZE) (entry_of D.Written.number S.Written.number C.Written.number place.now) }
 {
     let (label, rest) = record.split_at_mut(2);
     let (destination_length, rest) = rest.split_at_mut(1);

@@ -45,11 +45,11 @@ impl From<WriteFault> for TurnFault {
 // Loads a table into places and writes it again: the buffer then begins with the same bytes.
 pub fn load_and_write<D: Address, S: Address, C: Cost>(
     bytes: &[u8],
-    places: &mut [Record<D::Pattern, S::Pattern, C::Pattern>],
+    places: &mut [Record<D, S, C>],
     buffer: &mut [u8],
 ) -> Result<usize, TurnFault>
-    ensures answer { (lawful : ℕ → Bool) → Tells C.Written.number C.Written.reads lawful → result ≡ load_turn (table_verdict (kind D.Written.code D.Written.size) (kind S.Written.code S.Written.size) (kind C.Written.code C.Written.size) lawful (length places.old) bytes.now) (λ n. write_verdict (kind D.Written.code D.Written.size) (kind S.Written.code S.Written.size) (kind C.Written.code C.Written.size) n (length buffer.old)) }
-    ensures places { Placed (entry_of D.Written.number S.Written.number C.Written.number) (decode (kind D.Written.code D.Written.size) (kind S.Written.code S.Written.size) (kind C.Written.code C.Written.size) bytes.now) places.old places.new (filter_count bytes.now) result }
+    ensures answer { (lawful : ℕ → Bool) → Tells C.Written.number C.Written.reads lawful → result ≡ load_turn (table_verdict (kind D.Written.CODE D.Written.SIZE) (kind S.Written.CODE S.Written.SIZE) (kind C.Written.CODE C.Written.SIZE) lawful (length places.old) bytes.now) (λ n. write_verdict (kind D.Written.CODE D.Written.SIZE) (kind S.Written.CODE S.Written.SIZE) (kind C.Written.CODE C.Written.SIZE) n (length buffer.old)) }
+    ensures places { Placed (entry_of D.Written.number S.Written.number C.Written.number) (decode (kind D.Written.CODE D.Written.SIZE) (kind S.Written.CODE S.Written.SIZE) (kind C.Written.CODE C.Written.SIZE) bytes.now) places.old places.new (filter_count bytes.now) result }
     ensures same { Rewritten bytes.now buffer.old buffer.new result }
 {
     let count = load_table::<D, S, C>(bytes, places)?;
@@ -59,14 +59,14 @@ pub fn load_and_write<D: Address, S: Address, C: Cost>(
 
 // Writes the table of places and loads it into other ones: where the places held lawful filters, those are then the same.
 pub fn write_and_load<D: Address, S: Address, C: Cost>(
-    places: &[Record<D::Pattern, S::Pattern, C::Pattern>],
+    places: &[Record<D, S, C>],
     buffer: &mut [u8],
-    into: &mut [Record<D::Pattern, S::Pattern, C::Pattern>],
+    into: &mut [Record<D, S, C>],
 ) -> Result<usize, TurnFault>
-    ensures answer { (lawful : ℕ → Bool) → Tells C.Written.number C.Written.reads lawful → result ≡ write_load (write_verdict (kind D.Written.code D.Written.size) (kind S.Written.code S.Written.size) (kind C.Written.code C.Written.size) (length places.now) (length buffer.old)) (table_verdict (kind D.Written.code D.Written.size) (kind S.Written.code S.Written.size) (kind C.Written.code C.Written.size) lawful (length into.old) (encode (kind D.Written.code D.Written.size) (kind S.Written.code S.Written.size) (kind C.Written.code C.Written.size) (map (entry_of D.Written.number S.Written.number C.Written.number) places.now))) }
-    ensures bytes { buffer.new ≡ written (write_verdict (kind D.Written.code D.Written.size) (kind S.Written.code S.Written.size) (kind C.Written.code C.Written.size) (length places.now) (length buffer.old)) (encode (kind D.Written.code D.Written.size) (kind S.Written.code S.Written.size) (kind C.Written.code C.Written.size) (map (entry_of D.Written.number S.Written.number C.Written.number) places.now)) buffer.old }
-    ensures memory { Into (entry_of D.Written.number S.Written.number C.Written.number) (decode (kind D.Written.code D.Written.size) (kind S.Written.code S.Written.size) (kind C.Written.code C.Written.size) (encode (kind D.Written.code D.Written.size) (kind S.Written.code S.Written.size) (kind C.Written.code C.Written.size) (map (entry_of D.Written.number S.Written.number C.Written.number) places.now))) into.old into.new result }
-    ensures same { (lawful : ℕ → Bool) → Tells C.Written.number C.Written.reads lawful → (fs : List (Filter D S C)) → places.now ≡ map (record_of D.Written.pattern S.Written.pattern C.Written.pattern) fs → Holds D.Address.string S.Address.string D.Address.width S.Address.width (length into.old) fs → Reloaded places.now into.old into.new result }
+    ensures answer { (lawful : ℕ → Bool) → Tells C.Written.number C.Written.reads lawful → result ≡ write_load (write_verdict (kind D.Written.CODE D.Written.SIZE) (kind S.Written.CODE S.Written.SIZE) (kind C.Written.CODE C.Written.SIZE) (length places.now) (length buffer.old)) (table_verdict (kind D.Written.CODE D.Written.SIZE) (kind S.Written.CODE S.Written.SIZE) (kind C.Written.CODE C.Written.SIZE) lawful (length into.old) (encode (kind D.Written.CODE D.Written.SIZE) (kind S.Written.CODE S.Written.SIZE) (kind C.Written.CODE C.Written.SIZE) (map (entry_of D.Written.number S.Written.number C.Written.number) places.now))) }
+    ensures bytes { buffer.new ≡ written (write_verdict (kind D.Written.CODE D.Written.SIZE) (kind S.Written.CODE S.Written.SIZE) (kind C.Written.CODE C.Written.SIZE) (length places.now) (length buffer.old)) (encode (kind D.Written.CODE D.Written.SIZE) (kind S.Written.CODE S.Written.SIZE) (kind C.Written.CODE C.Written.SIZE) (map (entry_of D.Written.number S.Written.number C.Written.number) places.now)) buffer.old }
+    ensures memory { Into (entry_of D.Written.number S.Written.number C.Written.number) (decode (kind D.Written.CODE D.Written.SIZE) (kind S.Written.CODE S.Written.SIZE) (kind C.Written.CODE C.Written.SIZE) (encode (kind D.Written.CODE D.Written.SIZE) (kind S.Written.CODE S.Written.SIZE) (kind C.Written.CODE C.Written.SIZE) (map (entry_of D.Written.number S.Written.number C.Written.number) places.now))) into.old into.new result }
+    ensures same { (lawful : ℕ → Bool) → Tells C.Written.number C.Written.reads lawful → (fs : List (Filter D S C)) → places.now ≡ map (record_of D.Written.pattern S.Written.pattern C.Written.pattern) fs → Holds D.Address.string S.Address.string D.Address.WIDTH S.Address.WIDTH (length into.old) fs → Reloaded places.now into.old into.new result }
 {
     reads_back::<D, S, C>();
     let length = write_table::<D, S, C>(places, buffer)?;

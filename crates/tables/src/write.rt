@@ -15,13 +15,13 @@ use kinds::written::Written;
 // Writes the head of a table of `count` filters.
 fn put_head<D: Address, S: Address, C: Cost>(buffer: &mut [u8], count: u16)
     requires { length buffer.old ≡ 4 }
-    ensures { buffer.new ≡ encode_head (kind D.Written.code D.Written.size) (kind S.Written.code S.Written.size) (kind C.Written.code C.Written.size) count }
+    ensures { buffer.new ≡ encode_head (kind D.Written.CODE D.Written.SIZE) (kind S.Written.CODE S.Written.SIZE) (kind C.Written.CODE C.Written.SIZE) count }
 {
     let head = Head {
         edition: 1,
-        destination: D::kind(),
-        source: S::kind(),
-        cost: C::kind(),
+        destination: D::CODE,
+        source: S::CODE,
+        cost: C::CODE,
         count,
     };
     put_number(buffer, u32::from(head) as u128);
@@ -29,11 +29,11 @@ fn put_head<D: Address, S: Address, C: Cost>(buffer: &mut [u8], count: u16)
 
 // Writes the records of places, one behind the other; later bytes stay.
 fn put_records<D: Address, S: Address, C: Cost>(
-    places: &[Record<D::Pattern, S::Pattern, C::Pattern>],
+    places: &[Record<D, S, C>],
     records: &mut [u8],
 )
-    requires { length places.now * record_size (kind D.Written.code D.Written.size) (kind S.Written.code S.Written.size) (kind C.Written.code C.Written.size) ≤ length records.old }
-    ensures { records.new ≡ encode_records (kind D.Written.code D.Written.size) (kind S.Written.code S.Written.size) (kind C.Written.code C.Written.size) (map (entry_of D.Written.number S.Written.number C.Written.number) places.now) ++ drop (length places.now * record_size (kind D.Written.code D.Written.size) (kind S.Written.code S.Written.size) (kind C.Written.code C.Written.size)) records.old }
+    requires { length places.now * record_size (kind D.Written.CODE D.Written.SIZE) (kind S.Written.CODE S.Written.SIZE) (kind C.Written.CODE C.Written.SIZE) ≤ length records.old }
+    ensures { records.new ≡ encode_records (kind D.Written.CODE D.Written.SIZE) (kind S.Written.CODE S.Written.SIZE) (kind C.Written.CODE C.Written.SIZE) (map (entry_of D.Written.number S.Written.number C.Written.number) places.now) ++ drop (length places.now * record_size (kind D.Written.CODE D.Written.SIZE) (kind S.Written.CODE S.Written.SIZE) (kind C.Written.CODE C.Written.SIZE)) records.old }
 {
     let size = record_size::<D, S, C>();
     // A range by `i` and no `zip`: of bytes lent to a `chunks_exact_mut` the loop's proof has no name, and it does not close.
@@ -45,11 +45,11 @@ fn put_records<D: Address, S: Address, C: Cost>(
 // Writes the table of places from the buffer's start, and answers how many bytes it has; later bytes stay. A buffer without
 // room is refused, and then nothing is written; so are more places than a head can count, for which no buffer has room.
 pub fn write_table<D: Address, S: Address, C: Cost>(
-    places: &[Record<D::Pattern, S::Pattern, C::Pattern>],
+    places: &[Record<D, S, C>],
     buffer: &mut [u8],
 ) -> Result<usize, WriteFault>
-    ensures answer { result ≡ write_verdict (kind D.Written.code D.Written.size) (kind S.Written.code S.Written.size) (kind C.Written.code C.Written.size) (length places.now) (length buffer.old) }
-    ensures memory { buffer.new ≡ written result (encode (kind D.Written.code D.Written.size) (kind S.Written.code S.Written.size) (kind C.Written.code C.Written.size) (map (entry_of D.Written.number S.Written.number C.Written.number) places.now)) buffer.old }
+    ensures answer { result ≡ write_verdict (kind D.Written.CODE D.Written.SIZE) (kind S.Written.CODE S.Written.SIZE) (kind C.Written.CODE C.Written.SIZE) (length places.now) (length buffer.old) }
+    ensures memory { buffer.new ≡ written result (encode (kind D.Written.CODE D.Written.SIZE) (kind S.Written.CODE S.Written.SIZE) (kind C.Written.CODE C.Written.SIZE) (map (entry_of D.Written.number S.Written.number C.Written.number) places.now)) buffer.old }
 {
     let count = places.len();
     if count > 4095 {

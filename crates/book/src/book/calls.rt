@@ -2,7 +2,7 @@
 ghost use Rattle.std.specs.Prelude.{◌≡◌, ℕ, ◌+◌, ◌-◌, ◌<◌, ◌≤◌, true, false, [], ◌∷◌, ◌++◌, map, length, take, drop, Some, None, position, ◌==◌, slice_set};
 ghost use Rattle.std.specs.Option.{option_map, option_to_list};
 ghost use Rattle.filters.specs.declared.filter.Filter.{Filter};
-ghost use Rattle.filters.specs.declared.filter.Record.{Record};
+ghost use Rattle.filters.specs.Meaning.{Record};
 ghost use Rattle.filters.specs.Meaning.{record_of, rule_of, held, rules};
 ghost use Rattle.filters.specs.Refusals.{filter_verdict};
 ghost use Rattle.filters.specs.Rules.{Rule};
@@ -31,7 +31,7 @@ const MOST: usize = 4095;
 
 impl<'m, D: Address, S: Address, C: Cost> Book<'m, D, S, C> {
     // An empty book; the memory stays as found.
-    pub fn new(places: &'m mut [Record<D::Pattern, S::Pattern, C::Pattern>]) -> Self
+    pub fn new(places: &'m mut [Record<D, S, C>]) -> Self
         ensures { (result.used ≡ 0) × (result.places.now ≡ places.old) }
     {
         Book { places, used: 0 }
@@ -67,7 +67,7 @@ impl<'m, D: Address, S: Address, C: Cost> Book<'m, D, S, C> {
     }
 
     // The places in use, in the book's order.
-    pub fn records(&self) -> &[Record<D::Pattern, S::Pattern, C::Pattern>]
+    pub fn records(&self) -> &[Record<D, S, C>]
         ensures { result.now ≡ in_use self.now }
     {
         &self.places[..self.used]
@@ -90,14 +90,14 @@ impl<'m, D: Address, S: Address, C: Cost> Book<'m, D, S, C> {
 
     // The first refusal of a filter that comes to this book.
     fn check(&self, filter: &Filter<D, S, C>) -> Result<(), FilterFault>
-        ensures { result ≡ filter_verdict D.Address.string S.Address.string D.Address.width S.Address.width (has filter.now.label (labels (in_use self.now))) filter.now }
+        ensures { result ≡ filter_verdict D.Address.string S.Address.string D.Address.WIDTH S.Address.WIDTH (has filter.now.label (labels (in_use self.now))) filter.now }
     {
         check_filter(filter, self.contains(filter.label))
     }
 
     // Puts a filter behind the last. A refused filter changes nothing.
     pub fn add(&mut self, filter: &Filter<D, S, C>) -> Result<(), AddFault>
-        ensures answer { result ≡ add_verdict (capacity_of (length self.old.places.now)) self.old.used (filter_verdict D.Address.string S.Address.string D.Address.width S.Address.width (has filter.now.label (labels (in_use self.old))) filter.now) }
+        ensures answer { result ≡ add_verdict (capacity_of (length self.old.places.now)) self.old.used (filter_verdict D.Address.string S.Address.string D.Address.WIDTH S.Address.WIDTH (has filter.now.label (labels (in_use self.old))) filter.now) }
         ensures memory { self.new.places.now ≡ after result (slice_set self.old.places.now self.old.used (record_of D.Written.pattern S.Written.pattern C.Written.pattern filter.now)) self.old.places.now }
         ensures count { self.new.used ≡ after result (self.old.used + 1) self.old.used }
         ensures meaning { rules D.Address.spells S.Address.spells C.Written.reads (in_use self.new) ≡ after result (rules D.Address.spells S.Address.spells C.Written.reads (in_use self.old) ++ rule_of D.Address.string S.Address.string filter.now ∷ []) (rules D.Address.spells S.Address.spells C.Written.reads (in_use self.old)) }
@@ -131,10 +131,10 @@ impl<'m, D: Address, S: Address, C: Cost> Book<'m, D, S, C> {
     // Makes the book exactly the filters of a table, in its order; places behind them stay. The whole table is checked before
     // the first place is written, so a refused table changes nothing. It answers how many filters the table has.
     pub fn load(&mut self, table: &[u8]) -> Result<usize, LoadFault>
-        ensures answer { result ≡ load_verdict (kind D.Written.code D.Written.size) (kind S.Written.code S.Written.size) (kind C.Written.code C.Written.size) C.Written.value (capacity_of (length self.old.places.now)) table.now }
-        ensures memory { Loaded (entry_of D.Written.number S.Written.number C.Written.number) (decode (kind D.Written.code D.Written.size) (kind S.Written.code S.Written.size) (kind C.Written.code C.Written.size) table.now) self.old.places.now self.new.places.now result }
+        ensures answer { result ≡ load_verdict (kind D.Written.CODE D.Written.SIZE) (kind S.Written.CODE S.Written.SIZE) (kind C.Written.CODE C.Written.SIZE) C.Written.value (capacity_of (length self.old.places.now)) table.now }
+        ensures memory { Loaded (entry_of D.Written.number S.Written.number C.Written.number) (decode (kind D.Written.CODE D.Written.SIZE) (kind S.Written.CODE S.Written.SIZE) (kind C.Written.CODE C.Written.SIZE) table.now) self.old.places.now self.new.places.now result }
         ensures count { self.new.used ≡ count_after result self.old.used }
-        ensures meaning { rules D.Address.spells S.Address.spells C.Written.reads (in_use self.new) ≡ after result (table_rules (kind D.Written.code D.Written.size) (kind S.Written.code S.Written.size) (kind C.Written.code C.Written.size) C.Written.value table.now) (rules D.Address.spells S.Address.spells C.Written.reads (in_use self.old)) }
+        ensures meaning { rules D.Address.spells S.Address.spells C.Written.reads (in_use self.new) ≡ after result (table_rules (kind D.Written.CODE D.Written.SIZE) (kind S.Written.CODE S.Written.SIZE) (kind C.Written.CODE C.Written.SIZE) C.Written.value table.now) (rules D.Address.spells S.Address.spells C.Written.reads (in_use self.old)) }
     {
         let Book { places, used } = self;
         *used = load_table::<D, S, C>(table, places)?;
@@ -143,8 +143,8 @@ impl<'m, D: Address, S: Address, C: Cost> Book<'m, D, S, C> {
 
     // Writes the book as a table from the buffer's start, and answers how many bytes that is; book and later bytes stay.
     pub fn write(&self, buffer: &mut [u8]) -> Result<usize, WriteFault>
-        ensures answer { result ≡ write_verdict (kind D.Written.code D.Written.size) (kind S.Written.code S.Written.size) (kind C.Written.code C.Written.size) self.now.used (length buffer.old) }
-        ensures memory { buffer.new ≡ written result (encode (kind D.Written.code D.Written.size) (kind S.Written.code S.Written.size) (kind C.Written.code C.Written.size) (map (entry_of D.Written.number S.Written.number C.Written.number) (in_use self.now))) buffer.old }
+        ensures answer { result ≡ write_verdict (kind D.Written.CODE D.Written.SIZE) (kind S.Written.CODE S.Written.SIZE) (kind C.Written.CODE C.Written.SIZE) self.now.used (length buffer.old) }
+        ensures memory { buffer.new ≡ written result (encode (kind D.Written.CODE D.Written.SIZE) (kind S.Written.CODE S.Written.SIZE) (kind C.Written.CODE C.Written.SIZE) (map (entry_of D.Written.number S.Written.number C.Written.number) (in_use self.now))) buffer.old }
     {
         write_table::<D, S, C>(self.records(), buffer)
     }

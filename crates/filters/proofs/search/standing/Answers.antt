@@ -1,6 +1,6 @@
 use Rattle.std.proofs.Common.{ℕ, ◌+◌, ltb, List, sym, ap, ◌∙◌, add-zero, zero-add, arith}
 use Rattle.std.proofs.lemmas.List.{at_drop_all}
-use Rattle.filters.specs.declared.filter.Record.{Record}
+use Rattle.filters.specs.Meaning.{Record}
 use Rattle.filters.specs.Rules.{Rule, by_cost}
 use Rattle.filters.specs.Meaning.{rules, standing_of}
 use Rattle.filters.proofs.Reading.{count_step}

@@ -1,7 +1,7 @@
 use Rattle.std.proofs.Common.{◌≡◌, ℕ, ◌+◌, List, ◌∷◌, length, drop, sym, refl, ap, ◌∙◌, subst, arith}
 use Rattle.std.proofs.lemmas.List.{at_drop_more, at_drop_all, length-replicate}
 use Rattle.book.specs.Books.{capacity_of}
-use Rattle.filters.specs.declared.filter.Record.{Record}
+use Rattle.filters.specs.Meaning.{Record}
 use Rattle.grid.specs.declared.node.Node.TheVariants.{Empty}
 use Rattle.grid.specs.Refusals.{trail_verdict}
 use Rattle.gateway.specs.declared.history.Call.{Call}
@@ -65,12 +65,12 @@ returns g c =
           (record { found = c.classify-found.result; trailed = c.trail-trailed.result; nodes = c.nodes.result })
           (c.classify-found.ensures.answer (past K cap places calls) h)
           (c.trail-trailed.ensures.answer (past K cap places calls) h
-          ∙ ap (λ (n : ℕ). trail_verdict n g.D.Address.width g.S.Address.width (answer_of K (past K cap places calls).built d s)) few)
+          ∙ ap (λ (n : ℕ). trail_verdict n g.D.Address.WIDTH g.S.Address.WIDTH (answer_of K (past K cap places calls).built d s)) few)
           c.nodes.ensures;
       same = λ short. c.trail-trailed.ensures.same (omega arith) ∙ c.loop-call.invariant.2 short;
       marked = λ enough.
           let n =
-          accepted_noted h.derived.keys (past K cap places calls).built d s c.loop-call.trail c.trail-trailed.new.trail (length c.loop-call.trail) g.D.Address.width g.S.Address.width
+          accepted_noted h.derived.keys (past K cap places calls).built d s c.loop-call.trail c.trail-trailed.new.trail (length c.loop-call.trail) g.D.Address.WIDTH g.S.Address.WIDTH
           (answer_of K (past K cap places calls).built d s) (omega (arith, few)) (c.trail-trailed.ensures.memory (past K cap places calls) h) in
           record { keys = h.derived.keys; distinct = h.derived.distinct; whole = h.derived.whole; places = n.places };
     }

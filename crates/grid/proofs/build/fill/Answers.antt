@@ -24,7 +24,7 @@ insert_all-requires g c =
 pub returns : goal.returns
 returns g c =
     let D = g.D.Address.spells in
-    let w = g.D.Address.width in
+    let w = g.D.Address.WIDTH in
     let lt = better g.C.Cost.order in
     let ord = ranks g.C.Cost.order (record { exchange = g.met.C.Cost.exchange; chain = g.met.C.Cost.chain }) in
     let F = rules D g.S.Address.spells g.C.Written.reads c.args.records.now in

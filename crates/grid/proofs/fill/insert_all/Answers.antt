@@ -1,7 +1,7 @@
 use Rattle.std.proofs.Common.{◌≡◌, ℕ, zero, suc, ◌+◌, ◌*◌, ◌<◌, ◌≤◌, List, [], length, take, sym, subst, add-mul, arith}
 use Rattle.std.proofs.lemmas.List.{take_all}
 use Rattle.std.proofs.lemmas.Nat.{mul-le}
-use Rattle.filters.specs.declared.filter.Record.{Record}
+use Rattle.filters.specs.Meaning.{Record}
 use Rattle.filters.specs.Rules.{Rule, better}
 use Rattle.filters.specs.Meaning.{rules}
 use Rattle.filters.proofs.Bests.{ranks}
@@ -36,8 +36,8 @@ loop-place-init g c =
 pub insert_record-requires : goal.insert_record-requires
 insert_record-requires g c =
     let n = length c.args.records.now in
-    let wd = g.D.Address.width in
-    let ws = g.S.Address.width in
+    let wd = g.D.Address.WIDTH in
+    let ws = g.S.Address.WIDTH in
     let a = g.met.D.Address.span in
     let b = g.met.S.Address.span in
     let d = g.met.D.Written.short in
@@ -61,7 +61,7 @@ loop-place-preserved g c =
     let h = c.loop-place-test.true in
     let is = c.place-item.is in
     let m = c.insert_record.ensures.most in
-    let r = room_more (length xs) i g.D.Address.width g.S.Address.width h in
+    let r = room_more (length xs) i g.D.Address.WIDTH g.S.Address.WIDTH h in
     let v = c.loop-place.invariant in (
       c.insert_record.ensures.safe,
       omega arith,

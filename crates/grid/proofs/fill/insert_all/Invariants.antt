@@ -8,6 +8,6 @@ use Rattle.grid.proofs.fill.insert_all.Given as goal
 abbrev pub invariant-loop-place : goal.invariant-loop-place
 invariant-loop-place g l =
     Safe l.used l.nodes
-    × (l.used ≤ 1 + l.place-index * (g.D.Address.width + g.S.Address.width + 1))
+    × (l.used ≤ 1 + l.place-index * (g.D.Address.WIDTH + g.S.Address.WIDTH + 1))
     × Filled (better g.C.Cost.order) (rules g.D.Address.spells g.S.Address.spells g.C.Written.reads l.records)
     (rules g.D.Address.spells g.S.Address.spells g.C.Written.reads (take l.place-index l.records)) l.nodes l.used

@@ -15,6 +15,6 @@ loop-size-preserved g c =
 pub returns : goal.returns
 returns g c =
     let F = rules g.D.Address.spells g.S.Address.spells g.C.Written.reads c.args.records.now in
-    let w = c.width_in_bits-size-end.ensures in
-    let e : c.loop-size.size ≡ g.D.Address.width + 1 = omega arith in
+    let w = c.WIDTH-size-end.ensures in
+    let e : c.loop-size.size ≡ g.D.Address.WIDTH + 1 = omega arith in
     c.loop-size.invariant ∙ ap (λ (m : ℕ). finish_below m c.args.nodes.now F) e

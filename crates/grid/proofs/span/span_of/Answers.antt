@@ -17,7 +17,7 @@ returns g c =
     let l = c.args.prefix.length in
     let n = c.if-length-width.result in
     let wide = g.met.A.Address.long x in
-    let w = c.width_in_bits-width.ensures in
+    let w = c.WIDTH-width.ensures in
     let way : ((n ≡ l) × (l < length t)) ⊎ ((n ≡ length t) × (length t ≤ l)) =
     elim c.if-length-width.branch [
       | then-length-width v ↦ inl (omega (arith, v.result-is), omega (arith, v.if-length-width.true))

@@ -9,25 +9,25 @@ use Rattle.tables.proofs.check.check_records.Goals as goal
 
 pub slice_bounds-is_label_in-end : goal.slice_bounds-is_label_in-end
 slice_bounds-is_label_in-end g c =
-    let D = kind g.D.Written.code g.D.Written.size in
-    let S = kind g.S.Written.code g.S.Written.size in
-    let C = kind g.C.Written.code g.C.Written.size in
+    let D = kind g.D.Written.CODE g.D.Written.SIZE in
+    let S = kind g.S.Written.CODE g.S.Written.SIZE in
+    let C = kind g.C.Written.CODE g.C.Written.SIZE in
     let t = turned D S C c.args.records.now c.loop-i.i-iterator c.next.new.self _ _ c.loop-i.invariant.1 c.in-Some.is c.next.ensures.steps in
     sym (length-take-le _ c.args.records.now (omega (arith, inside D S C c.args.records.now c.in-Some.i t.1.below, ap (λ (k : ℕ). c.in-Some.i * k) c.record_size-size.ensures.size)))
 
 pub in_record-requires : goal.in_record-requires
 in_record-requires g c =
-    let D = kind g.D.Written.code g.D.Written.size in
-    let S = kind g.S.Written.code g.S.Written.size in
-    let C = kind g.C.Written.code g.C.Written.size in
+    let D = kind g.D.Written.CODE g.D.Written.SIZE in
+    let S = kind g.S.Written.CODE g.S.Written.SIZE in
+    let C = kind g.C.Written.CODE g.C.Written.SIZE in
     let t = turned D S C c.args.records.now c.loop-i.i-iterator c.next.new.self _ _ c.loop-i.invariant.1 c.in-Some.is c.next.ensures.steps in
     omega (arith, t.1.below, c.requires)
 
 pub loop-i-preserved : goal.loop-i-preserved
 loop-i-preserved g c =
-    let D = kind g.D.Written.code g.D.Written.size in
-    let S = kind g.S.Written.code g.S.Written.size in
-    let C = kind g.C.Written.code g.C.Written.size in
+    let D = kind g.D.Written.CODE g.D.Written.SIZE in
+    let S = kind g.S.Written.CODE g.S.Written.SIZE in
+    let C = kind g.C.Written.CODE g.C.Written.SIZE in
     let es = entries D S C c.args.records.now in
     let r = entry_of g.D.Written.number g.S.Written.number g.C.Written.number c.read_record-place.result in
     let t = turned D S C c.args.records.now c.loop-i.i-iterator c.next.new.self _ _ c.loop-i.invariant.1 c.in-Some.is c.next.ensures.steps in
@@ -47,9 +47,9 @@ loop-i-preserved g c =
 
 pub returns-in_err-in_record-clause-answer : goal.returns-in_err-in_record-clause-answer
 returns-in_err-in_record-clause-answer g c =
-    let D = kind g.D.Written.code g.D.Written.size in
-    let S = kind g.S.Written.code g.S.Written.size in
-    let C = kind g.C.Written.code g.C.Written.size in
+    let D = kind g.D.Written.CODE g.D.Written.SIZE in
+    let S = kind g.S.Written.CODE g.S.Written.SIZE in
+    let C = kind g.C.Written.CODE g.C.Written.SIZE in
     let es = entries D S C c.args.records.now in
     let r = entry_of g.D.Written.number g.S.Written.number g.C.Written.number c.read_record-place.result in
     let t = turned D S C c.args.records.now c.loop-i.i-iterator c.next.new.self _ _ c.loop-i.invariant.1 c.in-Some.is c.next.ensures.steps in
@@ -63,16 +63,16 @@ returns-in_err-in_record-clause-answer g c =
 
 pub returns-clause-answer : goal.returns-clause-answer
 returns-clause-answer g c =
-    let D = kind g.D.Written.code g.D.Written.size in
-    let S = kind g.S.Written.code g.S.Written.size in
-    let C = kind g.C.Written.code g.C.Written.size in
+    let D = kind g.D.Written.CODE g.D.Written.SIZE in
+    let S = kind g.S.Written.CODE g.S.Written.SIZE in
+    let C = kind g.C.Written.CODE g.C.Written.SIZE in
     let e = ended D S C c.args.records.now c.loop-i.i-iterator c.next.new.self _ c.loop-i.invariant.1 c.in-None.is c.next.ensures.steps in
     λ pass tells. ap Ok (sym e) ∙ sym (entries_all D S C pass (entries D S C c.args.records.now) _ e) ∙ c.loop-i.invariant.2 pass tells
 
 pub returns-clause-passed : goal.returns-clause-passed
 returns-clause-passed g c =
-    let D = kind g.D.Written.code g.D.Written.size in
-    let S = kind g.S.Written.code g.S.Written.size in
-    let C = kind g.C.Written.code g.C.Written.size in
+    let D = kind g.D.Written.CODE g.D.Written.SIZE in
+    let S = kind g.S.Written.CODE g.S.Written.SIZE in
+    let C = kind g.C.Written.CODE g.C.Written.SIZE in
     let e = ended D S C c.args.records.now c.loop-i.i-iterator c.next.new.self _ c.loop-i.invariant.1 c.in-None.is c.next.ensures.steps in
     sym c.loop-i.invariant.3 ∙ entries_all D S C (λ _. true) (entries D S C c.args.records.now) _ e ∙ ap Ok e

@@ -9,18 +9,18 @@ use Rattle.tables.proofs.check.check_table.Goals as goal
 
 pub check_records-requires : goal.check_records-requires
 check_records-requires g c =
-    let D = kind g.D.Written.code g.D.Written.size in
-    let S = kind g.S.Written.code g.S.Written.size in
-    let C = kind g.C.Written.code g.C.Written.size in
+    let D = kind g.D.Written.CODE g.D.Written.SIZE in
+    let S = kind g.S.Written.CODE g.S.Written.SIZE in
+    let C = kind g.C.Written.CODE g.C.Written.SIZE in
     let n = c.in_ok-count.count in
     let k = head_ok D S C c.args.capacity c.args.bytes.now n c.in_ok-count.ensures in
     omega (arith, ap length (table_entries D S C c.args.bytes.now n k.1), length_records D S C n (drop 4 c.args.bytes.now), k.3, count_small c.args.bytes.now)
 
 pub returns-in_err-check_records-clause-answer : goal.returns-in_err-check_records-clause-answer
 returns-in_err-check_records-clause-answer g c =
-    let D = kind g.D.Written.code g.D.Written.size in
-    let S = kind g.S.Written.code g.S.Written.size in
-    let C = kind g.C.Written.code g.C.Written.size in
+    let D = kind g.D.Written.CODE g.D.Written.SIZE in
+    let S = kind g.S.Written.CODE g.S.Written.SIZE in
+    let C = kind g.C.Written.CODE g.C.Written.SIZE in
     let n = c.in_ok-count.count in
     let k = head_ok D S C c.args.capacity c.args.bytes.now n c.in_ok-count.ensures in
     let p = err_from_is_err_and c.from_residual-in_err-check_records.result c.from_residual-in_err-check_records.ensures.1 in
@@ -32,9 +32,9 @@ returns-in_err-check_records-clause-answer g c =
 
 pub returns : goal.returns
 returns g c =
-    let D = kind g.D.Written.code g.D.Written.size in
-    let S = kind g.S.Written.code g.S.Written.size in
-    let C = kind g.C.Written.code g.C.Written.size in
+    let D = kind g.D.Written.CODE g.D.Written.SIZE in
+    let S = kind g.S.Written.CODE g.S.Written.SIZE in
+    let C = kind g.C.Written.CODE g.C.Written.SIZE in
     let n = c.in_ok-count.count in
     let k = head_ok D S C c.args.capacity c.args.bytes.now n c.in_ok-count.ensures in
     let e = table_entries D S C c.args.bytes.now n k.1 in

@@ -9,9 +9,9 @@ use Rattle.tables.proofs.check.is_label_in.Goals as goal
 
 pub returns : goal.returns
 returns g c =
-    let D = kind g.D.Written.code g.D.Written.size in
-    let S = kind g.S.Written.code g.S.Written.size in
-    let C = kind g.C.Written.code g.C.Written.size in
+    let D = kind g.D.Written.CODE g.D.Written.SIZE in
+    let S = kind g.S.Written.CODE g.S.Written.SIZE in
+    let C = kind g.C.Written.CODE g.C.Written.SIZE in
     any_from_yields_List (λ r. eqb r.label c.args.label) _ _ c.any.result c.any.ensures.ran
     (entries_yield D S C c.args.records.now c.chunks_exact.ensures.rest (c.chunks_exact.ensures.size ∙ c.record_size.ensures.size))
     (λ x b q k.

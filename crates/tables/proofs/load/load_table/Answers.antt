@@ -13,21 +13,21 @@ returns-in_err-count-clause-answer g c =
 
 pub read_records-requires : goal.read_records-requires
 read_records-requires g c =
-    let D = kind g.D.Written.code g.D.Written.size in
-    let S = kind g.S.Written.code g.S.Written.size in
-    let C = kind g.C.Written.code g.C.Written.size in
+    let D = kind g.D.Written.CODE g.D.Written.SIZE in
+    let S = kind g.S.Written.CODE g.S.Written.SIZE in
+    let C = kind g.C.Written.CODE g.C.Written.SIZE in
     let n = c.in_ok-count.count in
     let a = c.in_ok-count.ensures.accepted in
     omega (arith, a.2, ap length (table_entries D S C c.args.bytes.now n a.1), length_records D S C n (drop 4 c.args.bytes.now))
 
 pub returns-clause-labels : goal.returns-clause-labels
-returns-clause-labels g c = table_labels (kind g.D.Written.code g.D.Written.size) (kind g.S.Written.code g.S.Written.size) (kind g.C.Written.code g.C.Written.size) (λ _. true) (length c.args.places.now) c.args.bytes.now c.in_ok-count.count c.in_ok-count.ensures.accepted.3
+returns-clause-labels g c = table_labels (kind g.D.Written.CODE g.D.Written.SIZE) (kind g.S.Written.CODE g.S.Written.SIZE) (kind g.C.Written.CODE g.C.Written.SIZE) (λ _. true) (length c.args.places.now) c.args.bytes.now c.in_ok-count.count c.in_ok-count.ensures.accepted.3
 
 pub returns-clause-memory : goal.returns-clause-memory
 returns-clause-memory g c =
-    let D = kind g.D.Written.code g.D.Written.size in
-    let S = kind g.S.Written.code g.S.Written.size in
-    let C = kind g.C.Written.code g.C.Written.size in
+    let D = kind g.D.Written.CODE g.D.Written.SIZE in
+    let S = kind g.S.Written.CODE g.S.Written.SIZE in
+    let C = kind g.C.Written.CODE g.C.Written.SIZE in
     let n = c.in_ok-count.count in
     let a = c.in_ok-count.ensures.accepted in
     let e = table_entries D S C c.args.bytes.now n a.1 in

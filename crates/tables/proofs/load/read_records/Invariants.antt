@@ -8,6 +8,6 @@ use Rattle.tables.proofs.load.read_records.Given as goal
 abbrev pub invariant-loop-i : goal.invariant-loop-i
 invariant-loop-i g l =
     ((goal.iterator-loop-i g).can_next l.i-iterator × (goal.iterator-loop-i g).is_finite l.i-iterator)
-    × Chunked (kind g.D.Written.code g.D.Written.size) (kind g.S.Written.code g.S.Written.size) (kind g.C.Written.code g.C.Written.size) l.records l.i-iterator
-    × (map (entry_of g.D.Written.number g.S.Written.number g.C.Written.number) (take (enumerate_count l.i-iterator) l.places) ≡ take (enumerate_count l.i-iterator) (entries (kind g.D.Written.code g.D.Written.size) (kind g.S.Written.code g.S.Written.size) (kind g.C.Written.code g.C.Written.size) l.records))
+    × Chunked (kind g.D.Written.CODE g.D.Written.SIZE) (kind g.S.Written.CODE g.S.Written.SIZE) (kind g.C.Written.CODE g.C.Written.SIZE) l.records l.i-iterator
+    × (map (entry_of g.D.Written.number g.S.Written.number g.C.Written.number) (take (enumerate_count l.i-iterator) l.places) ≡ take (enumerate_count l.i-iterator) (entries (kind g.D.Written.CODE g.D.Written.SIZE) (kind g.S.Written.CODE g.S.Written.SIZE) (kind g.C.Written.CODE g.C.Written.SIZE) l.records))
     × (drop (enumerate_count l.i-iterator) l.places ≡ drop (enumerate_count l.i-iterator) l.initial.places)

@@ -1,5 +1,5 @@
 use Rattle.std.proofs.Common.{◌≡◌, ℕ, eqb, length, take, set, sym, refl, ap, ◌∙◌, arith, length-set}
-use Rattle.filters.specs.declared.filter.Record.{Record}
+use Rattle.filters.specs.Meaning.{Record}
 use Rattle.filters.specs.Refusals.{body_verdict, filter_verdict}
 use Rattle.tables.specs.Verdict.{has}
 use Rattle.tables.specs.Verdict.{labels}
@@ -12,7 +12,7 @@ pub returns-then-self-capacity : goal.returns-then-self-capacity
 returns-then-self-capacity g c =
     record {
       answer =
-          full (capacity_of (length c.args.self.now.places.now)) c.args.self.now.used (filter_verdict g.D.Address.string g.S.Address.string g.D.Address.width g.S.Address.width (has c.args.filter.now.label (labels (take c.args.self.now.used c.args.self.now.places.now))) c.args.filter.now) c.in_ok-check.field-0
+          full (capacity_of (length c.args.self.now.places.now)) c.args.self.now.used (filter_verdict g.D.Address.string g.S.Address.string g.D.Address.WIDTH g.S.Address.WIDTH (has c.args.filter.now.label (labels (take c.args.self.now.used c.args.self.now.places.now))) c.args.filter.now) c.in_ok-check.field-0
           (sym c.check.ensures ∙ c.in_ok-check.was)
           (omega (arith, c.capacity.ensures));
       memory = refl;
@@ -24,7 +24,7 @@ pub returns : goal.returns
 returns g c =
     record {
       answer =
-          room (capacity_of (length c.args.self.now.places.now)) c.args.self.now.used (filter_verdict g.D.Address.string g.S.Address.string g.D.Address.width g.S.Address.width (has c.args.filter.now.label (labels (take c.args.self.now.used c.args.self.now.places.now))) c.args.filter.now) c.in_ok-check.field-0
+          room (capacity_of (length c.args.self.now.places.now)) c.args.self.now.used (filter_verdict g.D.Address.string g.S.Address.string g.D.Address.WIDTH g.S.Address.WIDTH (has c.args.filter.now.label (labels (take c.args.self.now.used c.args.self.now.places.now))) c.args.filter.now) c.in_ok-check.field-0
           (sym c.check.ensures ∙ c.in_ok-check.was)
           (omega (arith, c.capacity.ensures));
       memory = c.put.ensures ∙ ap (set c.args.self.now.places.now c.args.self.now.used) c.to_record-record.ensures;
@@ -37,7 +37,7 @@ returns g c =
 
 pub invariant_of-self : goal.invariant_of-self
 invariant_of-self g c =
-    let a = accepted c.args.filter.now.label (has c.args.filter.now.label (labels (take c.args.self.now.used c.args.self.now.places.now))) (body_verdict g.D.Address.string g.S.Address.string g.D.Address.width g.S.Address.width c.args.filter.now.destination c.args.filter.now.source c.args.filter.now.directive) c.in_ok-check.field-0 (sym c.check.ensures ∙ c.in_ok-check.was) in
+    let a = accepted c.args.filter.now.label (has c.args.filter.now.label (labels (take c.args.self.now.used c.args.self.now.places.now))) (body_verdict g.D.Address.string g.S.Address.string g.D.Address.WIDTH g.S.Address.WIDTH c.args.filter.now.destination c.args.filter.now.source c.args.filter.now.directive) c.in_ok-check.field-0 (sym c.check.ensures ∙ c.in_ok-check.was) in
     let l : c.to_record-record.result.label ≡ c.args.filter.now.label = ap (λ (r : Record g.row.D-Pattern.Denot g.row.S-Pattern.Denot g.row.C-Pattern.Denot). r.label) c.to_record-record.ensures in
     let m = length-set c.args.self.now.places.now c.args.self.now.used c.to_record-record.result in
     let n = ap length c.put.ensures in

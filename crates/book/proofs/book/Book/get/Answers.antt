@@ -1,5 +1,5 @@
 use Rattle.std.proofs.Common.{List, take, drop, ap, ◌∙◌}
-use Rattle.filters.specs.declared.filter.Record.{Record}
+use Rattle.filters.specs.Meaning.{Record}
 use Rattle.filters.specs.Meaning.{rules}
 use Rattle.book.proofs.book.Book.get.Goals as goal
 

@@ -21,8 +21,8 @@ returns g c =
             room = refl;
             places = c.build.ensures.places;
             leaves = λ l h.
-                builds_leaves K l b w h (spells_short g.D.Address.spells g.D.Written.number g.D.Address.width g.met.D.Address.first)
-                (spells_short g.S.Address.spells g.S.Written.number g.S.Address.width g.met.S.Address.first)
+                builds_leaves K l b w h (spells_short g.D.Address.spells g.D.Written.number g.D.Address.WIDTH g.met.D.Address.first)
+                (spells_short g.S.Address.spells g.S.Written.number g.S.Address.WIDTH g.met.S.Address.first)
                 (capacity_of (length b.places.now)) c.build.new.self c.build.result a;
           };
     }

@@ -15,7 +15,7 @@ returns g c =
     record {
       answer = same;
       right = λ l h.
-          subst (λ (a : Answer). Right g.C.Cost.order g.D.Address.width g.S.Address.width l.built d s a) (sym (same l h))
+          subst (λ (a : Answer). Right g.C.Cost.order g.D.Address.WIDTH g.S.Address.WIDTH l.built d s a) (sym (same l h))
           (answer_right g.C.Cost.order (record { exchange = g.met.C.Cost.exchange; chain = g.met.C.Cost.chain }) l.built h.apart d s
-          g.D.Address.width g.S.Address.width (g.met.D.Address.long c.args.destination.now) (g.met.S.Address.long c.args.source.now));
+          g.D.Address.WIDTH g.S.Address.WIDTH (g.met.D.Address.long c.args.destination.now) (g.met.S.Address.long c.args.source.now));
     }

@@ -31,8 +31,8 @@ returns-in_err-nodes g c =
             room = ap capacity_of (loads_room K b b' bytes (Ok n) L);
             places = built.places;
             leaves = λ l h.
-                installed_leaves K l b b' w h bytes (spells_short g.D.Address.spells g.D.Written.number g.D.Address.width g.met.D.Address.first)
-                (spells_short g.S.Address.spells g.S.Written.number g.S.Address.width g.met.S.Address.first)
+                installed_leaves K l b b' w h bytes (spells_short g.D.Address.spells g.D.Written.number g.D.Address.WIDTH g.met.D.Address.first)
+                (spells_short g.S.Address.spells g.S.Written.number g.S.Address.WIDTH g.met.S.Address.first)
                 n L loaded.meaning w' (Err c.in_err-nodes.field-0.0) B;
           };
     }
@@ -57,8 +57,8 @@ returns g c =
             room = ap capacity_of (loads_room K b b' bytes (Ok n) L);
             places = built.places;
             leaves = λ l h.
-                installed_leaves K l b b' w h bytes (spells_short g.D.Address.spells g.D.Written.number g.D.Address.width g.met.D.Address.first)
-                (spells_short g.S.Address.spells g.S.Written.number g.S.Address.width g.met.S.Address.first)
+                installed_leaves K l b b' w h bytes (spells_short g.D.Address.spells g.D.Written.number g.D.Address.WIDTH g.met.D.Address.first)
+                (spells_short g.S.Address.spells g.S.Written.number g.S.Address.WIDTH g.met.S.Address.first)
                 n L loaded.meaning w' (Ok c.in_ok-nodes.nodes) B;
           };
     }

@@ -11,8 +11,8 @@ returns g c =
     let K = kinds_of g.D.Address g.D.Written g.D.Pattern.Plain g.S.Address g.S.Written g.S.Pattern.Plain g.C.Cost g.C.Written g.C.Pattern.Plain in
     let d = g.D.Address.string c.args.destination.now in
     let s = g.S.Address.string c.args.source.now in
-    let wd = g.D.Address.width in
-    let ws = g.S.Address.width in
+    let wd = g.D.Address.WIDTH in
+    let ws = g.S.Address.WIDTH in
     let n = length c.args.trail.now in
     record {
       answer = λ l h. c.trail.ensures.answer l.built h.apart h.derived;

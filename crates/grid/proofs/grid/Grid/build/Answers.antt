@@ -18,9 +18,9 @@ returns g c =
     let F : List (Rule g.row.C.Denot) = rules g.D.Address.spells g.S.Address.spells g.C.Written.reads xs in
     let F' : List (Rule g.row.C.Denot) = rules g.D.Address.spells g.S.Address.spells g.C.Written.reads c.records.result.now in
     let f : F' ≡ F = ap (rules g.D.Address.spells g.S.Address.spells g.C.Written.reads) c.records.ensures in
-    let t : Bool = too_few (length c.args.self.now.nodes.now) c.args.book.now.used g.D.Address.width g.S.Address.width in
+    let t : Bool = too_few (length c.args.self.now.nodes.now) c.args.book.now.used g.D.Address.WIDTH g.S.Address.WIDTH in
     let l : length c.records.result.now ≡ c.args.book.now.used = ap length c.records.ensures ∙ length-take-le c.args.book.now.used c.args.book.now.places.now c.args.book.now.fits in
-    let u : too_few (length c.args.self.now.nodes.now) (length c.records.result.now) g.D.Address.width g.S.Address.width ≡ t = ap (λ (n : ℕ). too_few (length c.args.self.now.nodes.now) n g.D.Address.width g.S.Address.width) l in
+    let u : too_few (length c.args.self.now.nodes.now) (length c.records.result.now) g.D.Address.WIDTH g.S.Address.WIDTH ≡ t = ap (λ (n : ℕ). too_few (length c.args.self.now.nodes.now) n g.D.Address.WIDTH g.S.Address.WIDTH) l in
     let e : c.build_from.result ≡ cond t (Err Places) (Ok (nodes F)) =
     c.build_from.ensures.answer ∙ (λ i. cond {A = Result ℕ BuildFault} (u i) (Err Places) (Ok (nodes (f i))))
     in

@@ -12,12 +12,12 @@ returns-then-self-needed g c =
     let n = length c.args.self.now.nodes.now in
     let m = length c.args.records.now in
     let F = rules g.D.Address.spells g.S.Address.spells g.C.Written.reads c.args.records.now in
-    let few : too_few n m g.D.Address.width g.S.Address.width ≡ true =
-    lt-ltb n (needed m g.D.Address.width g.S.Address.width) (omega (arith, c.if-self-needed.true, c.places_needed-needed.ensures)) in
+    let few : too_few n m g.D.Address.WIDTH g.S.Address.WIDTH ≡ true =
+    lt-ltb n (needed m g.D.Address.WIDTH g.S.Address.WIDTH) (omega (arith, c.if-self-needed.true, c.places_needed-needed.ensures)) in
     record {
-      answer = sym (cond-true {A = Result ℕ BuildFault} (too_few n m g.D.Address.width g.S.Address.width) (Err Places) (Ok (nodes F)) few);
-      count = sym (cond-true (too_few n m g.D.Address.width g.S.Address.width) c.args.self.now.used (nodes F) few);
+      answer = sym (cond-true {A = Result ℕ BuildFault} (too_few n m g.D.Address.WIDTH g.S.Address.WIDTH) (Err Places) (Ok (nodes F)) few);
+      count = sym (cond-true (too_few n m g.D.Address.WIDTH g.S.Address.WIDTH) c.args.self.now.used (nodes F) few);
       places = refl;
       same = λ h. refl;
-      grid = λ h. absurd (both_ways (too_few n m g.D.Address.width g.S.Address.width) h few);
+      grid = λ h. absurd (both_ways (too_few n m g.D.Address.WIDTH g.S.Address.WIDTH) h few);
     }

@@ -11,7 +11,7 @@ use Rattle.grid.proofs.grid.Grid.trail.Goals as goal
 pub returns : goal.returns
 returns g c =
     let n = length c.args.trail.now in
-    let bound = g.D.Address.width + g.S.Address.width + 2 in
+    let bound = g.D.Address.WIDTH + g.S.Address.WIDTH + 2 in
     let room : bound ≤ n = omega (arith, c.if-trail-trail_need.false, c.trail_need.ensures) in
     let d = g.D.Address.string c.args.destination.now in
     let s = g.S.Address.string c.args.source.now in
