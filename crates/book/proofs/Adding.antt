@@ -1,6 +1,7 @@
 -- A book after a filter was put behind the last.
 use Rattle.std.proofs.Common.{◌≡◌, ℕ, ◌+◌, ◌<◌, ◌≤◌, Bool, true, false, cond, not, ◌&&◌, ◌||◌, eqb, List, [], ◌∷◌, ◌++◌, length, take, set, Ok, Err, Result, sym, refl, ap, ◌∙◌, arith}
-use Rattle.std.proofs.lemmas.List.{take_more_set}
+use Rattle.std.proofs.lemmas.List.{take_more_set, map_push}
+use Rattle.std.proofs.lemmas.List.Folds.{list_any-append}
 use Rattle.std.proofs.lemmas.Bool.{and_parts, and_from, or_from, or_parts, ne_eqb, not-true, not_from_false, le-ltb, lt-ltb, eqb-false}
 use Rattle.filters.specs.declared.fault.FilterFault.{FilterFault}
 use Rattle.filters.specs.declared.fault.FilterFault.TheVariants.{ZeroLabel, LabelInUse}
@@ -9,9 +10,9 @@ use Rattle.filters.specs.Refusals.{then_used}
 use Rattle.book.specs.declared.fault.AddFault.{AddFault}
 use Rattle.book.specs.declared.fault.AddFault.TheVariants.{Full}
 use Rattle.tables.specs.Verdict.{has}
-use Rattle.book.specs.Labels.{labels, apart}
+use Rattle.book.specs.Labels.{apart}
+use Rattle.tables.specs.Verdict.{labels}
 use Rattle.book.specs.Books.{add_verdict}
-use Rattle.book.proofs.Found.{labels_append, has_append}
 
 err_ok : {A E : Type 0} (e : E) (x : A) → ◌≡◌ {A = Result A E} (Err e) (Ok x) → ⊥
 err_ok e x p = let z : ◌≡◌ {A = ℕ} 0 1 = cc in omega arith
@@ -34,14 +35,14 @@ apart_push (m ∷ ls) n a z h =
     let k = or_parts (eqb m n) (has n ls) h in
     let ne : eqb n m ≡ false = ne_eqb n m (λ e. eqb-false m n k.0 (sym e)) in
     let hs : has m (ls ++ n ∷ []) ≡ false =
-    has_append m ls (n ∷ []) ∙ or_from (has m ls) (eqb n m || false) (not-true (has m ls) q.0) (or_from (eqb n m) false ne refl)
+    list_any-append (λ k. eqb k m) ls (n ∷ []) ∙ or_from (has m ls) (eqb n m || false) (not-true (has m ls) q.0) (or_from (eqb n m) false ne refl)
     in
     and_from (not (eqb m 0)) (not (has m (ls ++ n ∷ [])) && apart (ls ++ n ∷ [])) p.0
     (and_from (not (has m (ls ++ n ∷ []))) (apart (ls ++ n ∷ [])) (not_from_false (has m (ls ++ n ∷ [])) hs) (apart_push ls n q.1 z k.1))
 
 module _ {D S P : Type 0} where
   pub labels_more : (xs : List (Record D S P)) (u : ℕ) (r : Record D S P) → u < length xs → labels (take (u + 1) (set xs u r)) ≡ labels (take u xs) ++ r.label ∷ []
-  labels_more xs u r h = ap labels (take_more_set xs u r h) ∙ labels_append (take u xs) (r ∷ [])
+  labels_more xs u r h = ap labels (take_more_set xs u r h) ∙ map_push (λ (s : Record D S P). s.label) (take u xs) r
 
   pub still_apart : (xs ys : List (Record D S P)) (u : ℕ) (r : Record D S P) → u < length xs → ys ≡ set xs u r → apart (labels (take u xs)) ≡ true → eqb r.label 0 ≡ false → has r.label (labels (take u xs)) ≡ false → apart (labels (take (u + 1) ys)) ≡ true
   still_apart xs ys u r h e a z n =

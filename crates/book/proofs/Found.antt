@@ -1,55 +1,29 @@
--- Labels of places, and the first place of one.
-use Rattle.std.proofs.Common.{◌≡◌, ℕ, zero, suc, ◌<◌, true, false, ◌||◌, eqb, List, [], ◌∷◌, ◌++◌, map, length, get_or, take, drop, is_some, Some, None, Option, sym, refl, ap, arith, MatchOption}
-use Rattle.std.proofs.lemmas.Bool.{eq-eqb, ne_eqb, or_from, or_parts, or_left, or_right}
-use Rattle.filters.specs.Meaning.{Record}
+-- The first place of a label.
+use Rattle.std.proofs.Common.{◌≡◌, ℕ, zero, suc, ◌+◌, ◌<◌, true, false, cond, ◌||◌, eqb, List, [], ◌∷◌, ◌++◌, map, length, get_or, take, drop, is_some, Some, sym, refl, ap, ◌∙◌, arith}
+use Rattle.std.specs.List.{position, position_from}
+use Rattle.std.proofs.lemmas.Iterator.Adapters.{position_from-zero}
+use Rattle.std.proofs.lemmas.List.Quantifiers.{position-Some}
 use Rattle.tables.specs.Verdict.{has}
-use Rattle.book.specs.Labels.{labels, without, FirstAt}
+use Rattle.book.specs.Labels.{without}
 
-module _ {D S P : Type 0} where
-  pub length_labels : (rs : List (Record D S P)) → length (labels rs) ≡ length rs
-  length_labels [] = refl
-  length_labels (r ∷ rs) = ap suc (length_labels rs)
+module _ {X : Type 0} (label : X → ℕ) (n : ℕ) where
+  has_from : (i : ℕ) (xs : List X) → is_some (position_from (λ x. eqb (label x) n) i xs) ≡ has n (map label xs)
+  has_from i [] = refl
+  has_from i (x ∷ xs) =
+      elim (eqb (label x) n) as (λ b. is_some (cond b (Some i) (position_from (λ y. eqb (label y) n) (i + 1) xs)) ≡ (b || has n (map label xs))) [ true ↦ refl | false ↦ has_from (i + 1) xs ]
 
-  pub get_d_labels : (rs : List (Record D S P)) (i : ℕ) (r : Record D S P) → i < length rs → get_or (labels rs) i 0 ≡ (get_or rs i r).label
-  get_d_labels [] i r h = absurd (omega arith)
-  get_d_labels (x ∷ rs) zero r h = refl
-  get_d_labels (x ∷ rs) (suc i) r h = get_d_labels rs i r (omega arith)
+  -- a search tells whether the label is there
+  pub has_position : (xs : List X) → is_some (position (λ x. eqb (label x) n) xs) ≡ has n (map label xs)
+  has_position xs = ap is_some (position_from-zero (λ x. eqb (label x) n) xs) ∙ has_from 0 xs
 
-  pub take_labels : (n : ℕ) (rs : List (Record D S P)) → labels (take n rs) ≡ take n (labels rs)
-  take_labels zero rs = refl
-  take_labels (suc n) [] = refl
-  take_labels (suc n) (r ∷ rs) = ap {B = List ℕ} (λ ls. r.label ∷ ls) (take_labels n rs)
+  without_first : (xs : List X) (k : ℕ) (d : X) → k < length xs → eqb (label (get_or xs k d)) n ≡ true → ((j : ℕ) → j < k → eqb (label (get_or xs j d)) n ≡ false) → without label n xs ≡ take k xs ++ drop (suc k) xs
+  without_first [] k d h e b = absurd (omega arith)
+  without_first (x ∷ xs) zero d h e b = rw e refl
+  without_first (x ∷ xs) (suc k) d h e b = rw (b 0 (omega arith)) (ap {B = List X} (λ ys. x ∷ ys) (without_first xs k d (omega arith) e (λ j l. b (suc j) (omega arith))))
 
-  pub labels_append : (xs ys : List (Record D S P)) → labels (xs ++ ys) ≡ labels xs ++ labels ys
-  labels_append [] ys = refl
-  labels_append (x ∷ xs) ys = ap {B = List ℕ} (λ ls. x.label ∷ ls) (labels_append xs ys)
-
-pub has_append : (n : ℕ) (xs ys : List ℕ) → has n (xs ++ ys) ≡ (has n xs || has n ys)
-has_append n [] ys = refl
-has_append n (x ∷ xs) ys = elim (eqb x n) as (λ t. (t || has n (xs ++ ys)) ≡ ((t || has n xs) || has n ys)) [ true ↦ refl | false ↦ has_append n xs ys ]
-
--- one more place without the label
-pub none_more : (n : ℕ) (ls : List ℕ) (i : ℕ) → i < length ls → has n (take i ls) ≡ false → (get_or ls i 0 ≡ n → ⊥) → has n (take (suc i) ls) ≡ false
-none_more n [] i h k ne = refl
-none_more n (m ∷ ls) zero h k ne = or_from (eqb m n) false (ne_eqb m n ne) refl
-none_more n (m ∷ ls) (suc i) h k ne =
-    let p = or_parts (eqb m n) (has n (take i ls)) k in
-    or_from (eqb m n) (has n (take (suc i) ls)) p.0 (none_more n ls i (omega arith) p.1 ne)
-
-pub has_at : (n : ℕ) (ls : List ℕ) (i : ℕ) → i < length ls → get_or ls i 0 ≡ n → has n ls ≡ true
-has_at n [] i h e = absurd (omega arith)
-has_at n (m ∷ ls) zero h e = or_left (eqb m n) (has n ls) (eq-eqb m n e)
-has_at n (m ∷ ls) (suc i) h e = or_right (eqb m n) (has n ls) (has_at n ls i (omega arith) e)
-
--- taking out the first element of a label closes the gap that it leaves
-pub without_at : {X : Type 0} (label : X → ℕ) (n : ℕ) (xs : List X) (k : ℕ) → FirstAt n (map label xs) k → without label n xs ≡ take k xs ++ drop (suc k) xs
-without_at label n [] k f = absurd (omega (arith, f.inside))
-without_at label n (x ∷ xs) zero f = rw (eq-eqb (label x) n f.here) refl
-without_at {X} label n (x ∷ xs) (suc k) f =
-    let p = or_parts (eqb (label x) n) (has n (take k (map label xs))) f.before in
-    rw p.0 (ap {B = List X} (λ ys. x ∷ ys) (without_at label n xs k (record { inside = omega (arith, f.inside); here = f.here; before = p.1 })))
-
--- a search that tells the first place tells whether there is one
-pub found_has : (n : ℕ) (ls : List ℕ) (o : Option ℕ) → MatchOption o (has n ls ≡ false) (λ k. FirstAt n ls k) → is_some o ≡ has n ls
-found_has n ls None h = sym h
-found_has n ls (Some k) f = sym (has_at n ls k f.inside f.here)
+  -- taking out the first element of a label closes the gap that it leaves
+  pub without_at : (xs : List X) (k : ℕ) → Some k ≡ position (λ x. eqb (label x) n) xs → (k < length xs) × (without label n xs ≡ take k xs ++ drop (suc k) xs)
+  without_at [] k e = cc
+  without_at (x ∷ xs) k e =
+      let p = position-Some (λ y. eqb (label y) n) (x ∷ xs) k x (sym e) in
+      (p.0, without_first (x ∷ xs) k x p.0 p.1 p.2)

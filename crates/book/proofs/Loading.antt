@@ -6,15 +6,15 @@ use Rattle.kinds.specs.Strings.{Str, bits}
 use Rattle.filters.specs.Meaning.{Record}
 use Rattle.filters.specs.Meaning.{held, held_at, rules}
 use Rattle.filters.specs.Rules.{Rule}
-use Rattle.tables.specs.declared.fault.TableFault.{TableFault}
-use Rattle.tables.specs.declared.fault.TableFault.TheVariants.{Short, Kind as OtherKind, Length, Full}
+use Rattle.tables.specs.declared.fault.HeadFault.{HeadFault}
+use Rattle.tables.specs.declared.fault.HeadFault.TheVariants.{Short, Kind as OtherKind, Length, Full}
 use Rattle.tables.specs.Format.{Kind, Entry, entry_of, decode, filter_count, head_fields, table_size}
 use Rattle.tables.specs.Laws.{distinct}
 use Rattle.tables.specs.Memory.{Labelled}
-use Rattle.tables.specs.Verdict.{has, labels as entry_labels, table_verdict, behind_head, same_kinds, entries_verdict}
+use Rattle.tables.specs.Verdict.{has, labels, table_verdict, behind_head, same_kinds, entries_verdict}
 use Rattle.tables.proofs.Inverse.{table_labels}
 use Rattle.tables.proofs.Tables.{length_records}
-use Rattle.book.specs.Labels.{labels, apart}
+use Rattle.book.specs.Labels.{apart}
 
 -- a head counts at most 4,095 filters
 pub count_small : (bytes : List ℕ) → filter_count bytes ≤ 4095
@@ -31,19 +31,19 @@ capacity_same D S C pass n bytes =
     ]
     in
     ap
-    (λ (t : Bool). behind_head (cond (ltb (length bytes) 4) (Err Short) (cond (same_kinds D S C (head_fields bytes)) (cond (eqb (length bytes) (table_size D S C (filter_count bytes))) (cond {A = Result ℕ TableFault} t (Err Full) (Ok (filter_count bytes))) (Err Length)) (Err OtherKind))) (entries_verdict D S C pass [] (decode D S C bytes)))
+    (λ (t : Bool). behind_head (cond (ltb (length bytes) 4) (Err Short) (cond (same_kinds D S C (head_fields bytes)) (cond (eqb (length bytes) (table_size D S C (filter_count bytes))) (cond {A = Result ℕ HeadFault} t (Err Full) (Ok (filter_count bytes))) (Err Length)) (Err OtherKind))) (entries_verdict D S C pass [] (decode D S C bytes)))
     e
 
 -- labels that are not 0 and stand once are apart
-pub apart_labelled : (rs : List Entry) → Labelled rs → apart (entry_labels rs) ≡ true
+pub apart_labelled : (rs : List Entry) → Labelled rs → apart (labels rs) ≡ true
 apart_labelled [] l = refl
 apart_labelled (r ∷ rs) l =
-    let p = and_parts (not (has r.label (entry_labels rs))) (distinct (entry_labels rs)) l.1 in
-    and_from (not (eqb r.label 0)) (not (has r.label (entry_labels rs)) && apart (entry_labels rs)) (not_from_false (eqb r.label 0) l.0.0)
-    (and_from (not (has r.label (entry_labels rs))) (apart (entry_labels rs)) p.0 (apart_labelled rs (l.0.1, p.1)))
+    let p = and_parts (not (has r.label (labels rs))) (distinct (labels rs)) l.1 in
+    and_from (not (eqb r.label 0)) (not (has r.label (labels rs)) && apart (labels rs)) (not_from_false (eqb r.label 0) l.0.0)
+    (and_from (not (has r.label (labels rs))) (apart (labels rs)) p.0 (apart_labelled rs (l.0.1, p.1)))
 
 -- the labels of places are those of their entries
-pub labels_entries : {D S P : Type 0} (nd : D → ℕ) (ns : S → ℕ) (nc : P → ℕ) (rs : List (Record D S P)) → labels rs ≡ entry_labels (map (entry_of nd ns nc) rs)
+pub labels_entries : {D S P : Type 0} (nd : D → ℕ) (ns : S → ℕ) (nc : P → ℕ) (rs : List (Record D S P)) → labels rs ≡ labels (map (entry_of nd ns nc) rs)
 labels_entries nd ns nc [] = refl
 labels_entries nd ns nc (r ∷ rs) = ap {B = List ℕ} (λ ls. r.label ∷ ls) (labels_entries nd ns nc rs)
 
@@ -71,5 +71,5 @@ module _ {R : Type 0} (entry : R → Entry) (D S C : Kind) (pass : ℕ → Bool)
       let k = count_small bytes in
       omega arith
 
-  pub labels_loaded : apart (entry_labels (map entry (take n ys))) ≡ true
-  labels_loaded = subst (λ (rs : List Entry). apart (entry_labels rs) ≡ true) (sym same) (apart_labelled (decode D S C bytes) (table_labels D S C pass capacity bytes n verdict))
+  pub labels_loaded : apart (labels (map entry (take n ys))) ≡ true
+  labels_loaded = subst (λ (rs : List Entry). apart (labels rs) ≡ true) (sym same) (apart_labelled (decode D S C bytes) (table_labels D S C pass capacity bytes n verdict))

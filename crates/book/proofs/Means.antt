@@ -10,7 +10,8 @@ use Rattle.filters.specs.Orders.{Each, Apart}
 use Rattle.filters.specs.Rules.{Rule}
 use Rattle.filters.proofs.Reading.{rules_append}
 use Rattle.tables.specs.Verdict.{has}
-use Rattle.book.specs.Labels.{labels, apart, without}
+use Rattle.book.specs.Labels.{apart, without}
+use Rattle.tables.specs.Verdict.{labels}
 
 -- a list without a label loses nothing when it is taken out
 pub without_none : {X : Type 0} (label : X → ℕ) (n : ℕ) (xs : List X) → has n (map label xs) ≡ false → without label n xs ≡ xs

@@ -1,13 +1,15 @@
 -- A book after a filter was taken out.
-use Rattle.std.proofs.Common.{◌≡◌, ℕ, suc, ◌+◌, ◌-◌, ◌<◌, ◌≤◌, true, false, cond, not, ◌&&◌, eqb, List, [], ◌∷◌, ◌++◌, map, length, take, drop, sym, refl, ap, ◌∙◌, arith}
+use Rattle.std.proofs.Common.{◌≡◌, ℕ, suc, ◌+◌, ◌-◌, ◌<◌, ◌≤◌, true, false, cond, not, ◌&&◌, eqb, List, [], ◌∷◌, ◌++◌, map, length, take, drop, Some, sym, refl, ap, ◌∙◌, arith}
 use lib.Seq.{paste}
 use Rattle.std.proofs.lemmas.List.Edits.{take-paste}
 use Rattle.std.proofs.lemmas.List.{take-take, drop-take, length-drop, length-take-le}
 use Rattle.std.proofs.lemmas.Bool.{and_parts, and_from, or_from, or_parts, not-true, not_from_false}
 use Rattle.filters.specs.Meaning.{Record}
 use Rattle.tables.specs.Verdict.{has}
-use Rattle.book.specs.Labels.{labels, apart, without, FirstAt}
-use Rattle.book.proofs.Found.{without_at, length_labels}
+use Rattle.book.specs.Labels.{apart, without}
+use Rattle.tables.specs.Verdict.{labels}
+use Rattle.std.specs.List.{position}
+use Rattle.book.proofs.Found.{without_at}
 
 module _ {X : Type 0} (label : X → ℕ) where
   -- what is not among the labels is not among fewer
@@ -32,9 +34,9 @@ module _ {X : Type 0} (label : X → ℕ) where
             (fewer_apart n xs q.1))
       ]
 
-module _ {D S P : Type 0} (xs : List (Record D S P)) (u at n : ℕ) (fits : u ≤ length xs) (found : FirstAt n (labels (take u xs)) at) where
+module _ {D S P : Type 0} (xs : List (Record D S P)) (u at n : ℕ) (fits : u ≤ length xs) (found : Some at ≡ position (λ r. eqb r.label n) (take u xs)) where
   pub at_inside : at < u
-  at_inside = omega (arith, found.inside, length_labels (take u xs), length-take-le u xs fits)
+  at_inside = omega (arith, (without_at (λ (r : Record D S P). r.label) n (take u xs) at found).0, length-take-le u xs fits)
 
   -- the places in use after later ones have moved down
   pub moved_are : take at xs ++ take (u - 1 - at) (drop (suc at) xs) ≡ without (λ r. r.label) n (take u xs)
@@ -42,7 +44,7 @@ module _ {D S P : Type 0} (xs : List (Record D S P)) (u at n : ℕ) (fits : u �
       let h = at_inside in
       let e : suc at + (u - 1 - at) ≡ u = omega arith in
       sym
-      (without_at (λ (r : Record D S P). r.label) n (take u xs) at found
+      ((without_at (λ (r : Record D S P). r.label) n (take u xs) at found).1
       ∙ ap (λ (ys : List (Record D S P)). ys ++ drop (suc at) (take u xs)) (take-take at u xs (omega arith))
       ∙ ap (λ (k : ℕ). take at xs ++ drop (suc at) (take k xs)) (sym e)
       ∙ ap (λ (ys : List (Record D S P)). take at xs ++ ys) (drop-take (suc at) (u - 1 - at) xs))

@@ -1,7 +1,13 @@
 -- What the calls of a book answer and leave.
-use Rattle.std.specs.Prelude.{ℕ, min, Bool, cond, Ok, Err, Result, nat_lt}
+use Rattle.std.specs.Prelude.{ℕ, min, Bool, cond, List, take, Ok, Err, Result, nat_lt}
+use Rattle.kinds.specs.declared.address.Address.{Ghosts as Address}
+use Rattle.kinds.specs.declared.cost.Cost.{Ghosts as Cost}
+use Rattle.kinds.specs.declared.plain.Plain.{Ghosts as Plain}
+use Rattle.kinds.specs.declared.written.Written.{Ghosts as Written}
 use Rattle.filters.specs.declared.fault.FilterFault.{FilterFault}
+use Rattle.filters.specs.Meaning.{Record}
 use Rattle.filters.specs.Refusals.{filter_number}
+use Rattle.book.specs.declared.book.Book.{Book}
 use Rattle.book.specs.declared.fault.AddFault.{AddFault}
 use Rattle.book.specs.declared.fault.AddFault.TheVariants.{Filter, Full}
 use Rattle.book.specs.declared.fault.WithdrawFault.{WithdrawFault}
@@ -15,6 +21,10 @@ add_number Full = 6
 -- the number of the refusal of withdrawing
 abbrev pub withdraw_number : WithdrawFault → ℕ
 withdraw_number UnknownLabel = 7
+
+-- the places in use, in the book's order
+abbrev pub in_use : {D S C D' S' C' : Type 0} {dst : Address D D'} {dst' : Written D D'} {dstp : Plain D'} {src : Address S S'} {src' : Written S S'} {srcp : Plain S'} {cost : Cost C C'} {cost' : Written C C'} {costp : Plain C'} → Book D S C D' S' C' dst dst' dstp src src' srcp cost cost' costp → List (Record D' S' C')
+in_use b = take b.used b.places.now
 
 -- a book has as many places as its memory, but at most 4,095
 abbrev pub capacity_of : ℕ → ℕ

@@ -6,7 +6,8 @@ use Rattle.filters.specs.Meaning.{Record}
 use Rattle.filters.specs.Meaning.{held_at, rules}
 use Rattle.filters.specs.Orders.{Each}
 use Rattle.tables.specs.Verdict.{has}
-use Rattle.book.specs.Labels.{labels, without}
+use Rattle.book.specs.Labels.{without}
+use Rattle.tables.specs.Verdict.{labels}
 use Rattle.gateway.specs.Kinds.{labels_of}
 
 -- a front is no longer than the list

@@ -10,7 +10,8 @@ use Rattle.tries.specs.Shape.{nodes}
 use Rattle.book.specs.declared.fault.AddFault.{AddFault}
 use Rattle.book.specs.declared.fault.WithdrawFault.{WithdrawFault}
 use Rattle.book.specs.Books.{capacity_of, add_verdict, withdraw_verdict, after}
-use Rattle.book.specs.Labels.{labels, without}
+use Rattle.book.specs.Labels.{without}
+use Rattle.tables.specs.Verdict.{labels}
 use Rattle.book.specs.Loads.{count_after}
 use Rattle.grid.specs.declared.build.BuildFault.{BuildFault}
 use Rattle.grid.specs.declared.build.BuildFault.TheVariants.{Places}

@@ -47,7 +47,7 @@ impl InstallFault {
         ensures { result ≡ install_record self }
     {
         match self {
-            InstallFault::Load(fault) => fault.record,
+            InstallFault::Load(fault) => fault.record(),
             InstallFault::Build(_) => 0,
         }
     }

@@ -80,7 +80,7 @@ fn outcome<D: Address, S: Address, C: Cost>(
                 format!(in heap; "accepted {count}, and written otherwise")
             }
         }
-        Err(fault) => format!(in heap; "record {} refusal {}", fault.record, fault.number()),
+        Err(fault) => format!(in heap; "record {} refusal {}", fault.record(), fault.number()),
     }
 }
 

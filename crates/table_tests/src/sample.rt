@@ -101,7 +101,7 @@ mod tests {
         let Err(fault) = load_table::<Ipv4, Ipv4, Rank>(table.as_slice(), &mut places) else {
             return Err(Fail::new("accepted"));
         };
-        assert_eq!(rt; fault.record, 2);
+        assert_eq!(rt; fault.record(), 2);
         assert_eq!(rt; fault.number(), 5);
         assert!(rt; is_junk(&places[0]) && is_junk(&places[1]));
         Ok(())
@@ -181,7 +181,7 @@ mod tests {
         let Err(fault) = check_table::<Ipv4, Ipv4, Rank>(table.as_slice(), 4095) else {
             return Err(Fail::new("accepted"));
         };
-        assert_eq!(rt; fault.record, 4095);
+        assert_eq!(rt; fault.record(), 4095);
         assert_eq!(rt; fault.number(), 5);
         Ok(())
     }

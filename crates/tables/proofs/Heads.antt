@@ -1,16 +1,16 @@
 -- What an accepted head says of its table.
 use Rattle.std.proofs.Common.{◌≡◌, ℕ, ◌≤◌, Bool, true, false, cond, eqb, ltb, List, [], length, drop, Ok, Err, Result, sym, refl, ap, ◌∙◌, arith}
 use Rattle.std.proofs.lemmas.Bool.{eqb-true, ltb-false}
-use Rattle.tables.specs.declared.fault.TableFault.{TableFault}
-use Rattle.tables.specs.declared.fault.TableFault.TheVariants.{Short, Kind as OtherKind, Length, Full}
+use Rattle.tables.specs.declared.fault.HeadFault.{HeadFault}
+use Rattle.tables.specs.declared.fault.HeadFault.TheVariants.{Short, Kind as OtherKind, Length, Full}
 use Rattle.tables.specs.Format.{Kind, head_fields, filter_count, table_size, decode_records}
 use Rattle.tables.specs.Verdict.{same_kinds, head_verdict, table_verdict, behind_head, entries_verdict}
 
 -- the four tests of a head, as they come
-abbrev pub tested : Bool → Bool → Bool → Bool → ℕ → Result ℕ TableFault
+abbrev pub tested : Bool → Bool → Bool → Bool → ℕ → Result ℕ HeadFault
 tested a b c d m = cond a (Err Short) (cond b (cond c (cond d (Err Full) (Ok m)) (Err Length)) (Err OtherKind))
 
-never : {X : Type 0} (n : ℕ) (e : TableFault) → Ok n ≡ Err e → X
+never : {X : Type 0} (n : ℕ) (e : HeadFault) → Ok n ≡ Err e → X
 never n e h = let z : ◌≡◌ {A = ℕ} 0 1 = cc in absurd (omega arith)
 
 pub tested_ok : (a b c d : Bool) (n m : ℕ) → Ok n ≡ tested a b c d m → (a ≡ false) × (b ≡ true) × (c ≡ true) × (d ≡ false) × (n ≡ m)
@@ -32,7 +32,7 @@ head_ok D S C capacity bytes n h =
 
 pub behind_ok : (D S C : Kind) (pass : ℕ → Bool) (capacity : ℕ) (bytes : List ℕ) (n : ℕ) → Ok n ≡ head_verdict D S C capacity bytes → table_verdict D S C pass capacity bytes ≡ entries_verdict D S C pass [] (decode_records D S C n (drop 4 bytes))
 behind_ok D S C pass capacity bytes n h =
-    ap (λ (v : Result ℕ TableFault). behind_head v (entries_verdict D S C pass [] (decode_records D S C (filter_count bytes) (drop 4 bytes)))) (sym h)
+    ap (λ (v : Result ℕ HeadFault). behind_head v (entries_verdict D S C pass [] (decode_records D S C (filter_count bytes) (drop 4 bytes)))) (sym h)
     ∙ ap (λ (k : ℕ). entries_verdict D S C pass [] (decode_records D S C k (drop 4 bytes))) (sym (head_ok D S C capacity bytes n h).3)
 
 pub count_small : (bytes : List ℕ) → filter_count bytes ≤ 4095

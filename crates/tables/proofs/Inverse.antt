@@ -12,7 +12,7 @@ use Rattle.filters.specs.Meaning.{respelt}
 use Rattle.filters.specs.Orders.{Each}
 use Rattle.filters.specs.Refusals.{body_verdict, filter_verdict, then_used}
 use Rattle.tables.specs.declared.fault.RecordFault.TheVariants.{Filter as OfFilter, Pattern}
-use Rattle.tables.specs.declared.fault.TableFault.{TableFault}
+use Rattle.tables.specs.declared.fault.HeadFault.{HeadFault}
 use Rattle.tables.specs.declared.fault.LoadFault.{LoadFault}
 use Rattle.tables.specs.Bytes.{pack, nth}
 use Rattle.tables.specs.Format.{Kind, Entry, head_widths, head_of, head_fields, filter_count, record_size, table_size, encode_head, encode_records, encode, decode_records, decode}
@@ -67,7 +67,7 @@ module _ (D S C : Kind) where
     pub table_back : (pass : ℕ → Bool) (capacity : ℕ) (rs : List Entry) → length rs ≤ 4095 → length rs ≤ capacity → Each (Sound D S C) rs → Each (λ r. entry_verdict D S C pass false r ≡ Ok tt) rs → distinct (labels rs) ≡ true → (table_verdict D S C pass capacity (encode D S C rs) ≡ Ok (length rs)) × (decode D S C (encode D S C rs) ≡ rs)
     table_back pass capacity rs h l s v d =
         let e = decode_back rs h s in (
-          ap (λ (z : Result ℕ TableFault). behind_head z (entries_verdict D S C pass [] (decode D S C (encode D S C rs)))) (head_accepts rs capacity h l)
+          ap (λ (z : Result ℕ HeadFault). behind_head z (entries_verdict D S C pass [] (decode D S C (encode D S C rs)))) (head_accepts rs capacity h l)
               ∙ ap (entries_verdict D S C pass []) e
               ∙ accept D S C pass [] rs v (unseen_none rs) d
               ∙ ap Ok (omega arith),
@@ -75,7 +75,7 @@ module _ (D S C : Kind) where
         )
 
   -- an accepted table was accepted by head and records
-  pub behind_parts : (v : Result ℕ TableFault) (w : Result ℕ LoadFault) (n : ℕ) → behind_head v w ≡ Ok n → ((k : ℕ) × (Ok k ≡ v)) × (w ≡ Ok n)
+  pub behind_parts : (v : Result ℕ HeadFault) (w : Result ℕ LoadFault) (n : ℕ) → behind_head v w ≡ Ok n → ((k : ℕ) × (Ok k ≡ v)) × (w ≡ Ok n)
   behind_parts (Ok k) w n h = ((k, refl), h)
   behind_parts (Err e) w n h = let z : ◌≡◌ {A = ℕ} 0 1 = cc in absurd (omega arith)
 

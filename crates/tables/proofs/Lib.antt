@@ -1,6 +1,6 @@
 pub mod Words
+pub mod Chunks
 pub mod Fields
-pub mod Records
 pub mod Tables
 pub mod Verdicts
 pub mod Walk

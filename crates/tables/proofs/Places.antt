@@ -1,30 +1,35 @@
 -- What loading leaves in the places, and writing in the buffer, record by record.
-use Rattle.std.proofs.Common.{◌≡◌, ℕ, ◌+◌, ◌*◌, ◌<◌, ◌≤◌, Bool, cond, ltb, List, [], ◌∷◌, ◌++◌, map, length, get_or, take, drop, set, Ok, Err, sym, refl, ap, ◌∙◌, suc-mul, add-mul, one-mul, zero-add, zero-mul, arith}
-use lib.Seq.{paste}
-use Rattle.std.proofs.lemmas.List.Edits.{paste-paste, paste_all}
-use Rattle.std.proofs.lemmas.List.{drop-drop, drop-set-lt, take_more_set, map_push, map_more, append_assoc, append-nil, length-append, length-map, length-take-le}
-use Rattle.std.proofs.lemmas.Bool.{le-ltb, lt-ltb, or_from, or_left}
-use Rattle.tables.specs.declared.fault.WriteFault.TheVariants.{Short}
-use Rattle.tables.specs.Format.{Kind, Entry, record_parts, record_size, decode_record, decode_records, table_size, encode_head, encode_record, encode_records, encode, entry_numbers}
-use Rattle.tables.specs.Memory.{write_verdict}
-use Rattle.tables.proofs.Words.{length_spelt, length_spell}
-use Rattle.tables.proofs.Tables.{records_push, record_start}
+use Rattle.std.proofs.Common.{◌≡◌, ℕ, ◌+◌, ◌*◌, ◌<◌, List, [], ◌∷◌, ◌++◌, map, length, get_or, take, drop, set, sym, refl, ap, ◌∙◌, suc-mul, add-mul, one-mul, zero-mul, arith}
+use borrow.Rule.Slice.PartMut.{put_mid}
+use Rattle.std.proofs.lemmas.List.{drop-drop, drop-set-lt, take_more, take_more_set, map_push, map_more, append_assoc, append-nil, length-append, length-map, length-take-le, take_at, drop_at}
+use Rattle.tables.specs.Format.{Kind, Entry, record_parts, record_size, table_size, encode_head, encode_record, encode_records, encode, entry_numbers}
+use Rattle.tables.proofs.Words.{length_spell}
+
+-- one place more is loaded
+pub load_more : {R : Type 0} (entry : R → Entry) (es : List Entry) (n i m : ℕ) (old ps qs : List R) (r : R) (e : Entry) → i ≡ n → m ≡ i + 1 → i < length ps → i < length es → qs ≡ set ps i r → entry r ≡ e → e ≡ get_or es i e → map entry (take n ps) ≡ take n es → drop n ps ≡ drop n old → (map entry (take m qs) ≡ take m es) × (drop m qs ≡ drop m old)
+load_more {R} entry es n i m old ps qs r e same next h k w f at l o = (
+  ap (λ (j : ℕ). map entry (take j qs)) next
+      ∙ ap (λ (ys : List R). map entry (take (i + 1) ys)) w
+      ∙ ap (map entry) (take_more_set ps i r h)
+      ∙ map_push entry (take i ps) r
+      ∙ ap (λ (j : ℕ). map entry (take j ps) ++ entry r ∷ []) same
+      ∙ ap (λ (z : List Entry). z ++ entry r ∷ []) l
+      ∙ ap (λ (j : ℕ). take j es ++ entry r ∷ []) (sym same)
+      ∙ ap (λ (z : Entry). take i es ++ z ∷ []) (f ∙ at)
+      ∙ sym (take_more es i e k)
+      ∙ ap (λ (j : ℕ). take j es) (sym next),
+  ap (λ (j : ℕ). drop j qs) next
+      ∙ ap (drop (i + 1)) w
+      ∙ drop-set-lt (i + 1) ps i r (omega arith)
+      ∙ sym (drop-drop 1 i ps)
+      ∙ ap (λ (j : ℕ). drop 1 (drop j ps)) same
+      ∙ ap (drop 1) o
+      ∙ ap (λ (j : ℕ). drop 1 (drop j old)) (sym same)
+      ∙ drop-drop 1 i old
+      ∙ ap (λ (j : ℕ). drop j old) (sym next),
+)
 
 module _ (D S C : Kind) where
-  -- one place more is loaded
-  pub load_more : {R : Type 0} (entry : R → Entry) (bytes : List ℕ) (size i : ℕ) (old ps : List R) (r : R) → i < length ps → size ≡ record_size D S C → map entry (take i ps) ≡ decode_records D S C i (drop 4 bytes) → drop i ps ≡ drop i old → entry r ≡ decode_record D S C (drop (4 + i * size) bytes) → (map entry (take (i + 1) (set ps i r)) ≡ decode_records D S C (i + 1) (drop 4 bytes)) × (drop (i + 1) (set ps i r) ≡ drop (i + 1) old)
-  load_more entry bytes size i old ps r h e l k f = (
-    ap (map entry) (take_more_set ps i r h)
-        ∙ map_push entry (take i ps) r
-        ∙ ap (λ (z : List Entry). z ++ entry r ∷ []) l
-        ∙ ap (λ (z : Entry). decode_records D S C i (drop 4 bytes) ++ z ∷ []) (f ∙ ap (decode_record D S C) (record_start D S C bytes i size e))
-        ∙ sym (records_push D S C i (drop 4 bytes)),
-    drop-set-lt (i + 1) ps i r (omega arith)
-        ∙ sym (drop-drop 1 i ps)
-        ∙ ap (drop 1) k
-        ∙ drop-drop 1 i old,
-  )
-
   -- a record has its size
   pub length_record : (r : Entry) → length (encode_record D S C r) ≡ record_size D S C
   length_record r = length_spell (record_parts D S C) (entry_numbers D S C r) refl
@@ -45,39 +50,31 @@ module _ (D S C : Kind) where
   encode_push rs r = encode_append rs (r ∷ []) ∙ ap (λ (z : List ℕ). encode_records D S C rs ++ z) (append-nil (encode_record D S C r))
 
   -- one record more is written
-  pub put_more : {R : Type 0} (entry : R → Entry) (ps : List R) (d x y : List ℕ) (i size : ℕ) (r : R) → i < length ps → 4 ≤ length d → size ≡ record_size D S C → r ≡ get_or ps i r → x ≡ paste d 4 (encode_records D S C (map entry (take i ps))) (i * record_size D S C) → y ≡ paste x (4 + i * size) (encode_record D S C (entry r)) (record_size D S C) → y ≡ paste d 4 (encode_records D S C (map entry (take (i + 1) ps))) ((i + 1) * record_size D S C)
-  put_more {R = R} entry ps d x y i size r h l e g f k =
+  pub put_more : {R : Type 0} (entry : R → Entry) (ps : List R) (d x y z : List ℕ) (i a k : ℕ) (r : R) → i < length ps → a ≡ i * record_size D S C → k ≡ record_size D S C → r ≡ get_or ps i r → x ≡ encode_records D S C (map entry (take i ps)) ++ drop (i * record_size D S C) d → z ≡ encode_record D S C (entry r) → y ≡ put_mid a k x z → y ≡ encode_records D S C (map entry (take (i + 1) ps)) ++ drop ((i + 1) * record_size D S C) d
+  put_more {R} entry ps d x y z i a k r h ea ek g f w e =
+      let s = record_size D S C in
       let rs = map entry (take i ps) in
-      let s = encode_records D S C rs in
-      let t = encode_record D S C (entry r) in
-      let n : i * record_size D S C ≡ length s = omega (arith, length_encoded rs, length-map (take i ps) entry, length-take-le i ps (omega arith), ap (λ (z : ℕ). z * record_size D S C) (length-map (take i ps) entry ∙ length-take-le i ps (omega arith))) in
-      let m : i * record_size D S C + record_size D S C ≡ (i + 1) * record_size D S C = omega (arith, add-mul i 1 (record_size D S C), one-mul (record_size D S C)) in
-      let u : map entry (take (i + 1) ps) ≡ rs ++ entry r ∷ [] = map_more entry ps i r h ∙ ap (λ (z : R). rs ++ entry z ∷ []) (sym g) in
-      k
-      ∙ ap (λ (z : List ℕ). paste z (4 + i * size) t (record_size D S C)) f
-      ∙ ap (λ (z : ℕ). paste (paste d 4 s (i * record_size D S C)) (4 + i * z) t (record_size D S C)) e
-      ∙ paste-paste d 4 s t (i * record_size D S C) (record_size D S C) n (sym (length_record (entry r))) l
-      ∙ ap (λ (z : ℕ). paste d 4 (s ++ t) z) m
-      ∙ ap (λ (z : List ℕ). paste d 4 z ((i + 1) * record_size D S C)) (sym (ap (encode_records D S C) u ∙ encode_push rs (entry r)))
+      let es = encode_records D S C rs in
+      let n : length es ≡ i * s = length_encoded rs ∙ ap (λ (j : ℕ). j * s) (length-map (take i ps) entry ∙ length-take-le i ps (omega arith)) in
+      let m : i * s + s ≡ (i + 1) * s = omega (arith, add-mul i 1 s, one-mul s) in
+      let u : map entry (take (i + 1) ps) ≡ rs ++ entry r ∷ [] = map_more entry ps i r h ∙ ap (λ (q : R). rs ++ entry q ∷ []) (sym g) in
+      e
+      ∙ ap (λ (j : ℕ). put_mid j k x z) ea
+      ∙ ap (λ (j : ℕ). put_mid (i * s) j x z) ek
+      ∙ ap (λ (xs : List ℕ). put_mid (i * s) s xs z) f
+      ∙ ap (λ (xs : List ℕ). xs ++ (z ++ drop s (drop (i * s) (es ++ drop (i * s) d)))) (take_at es (drop (i * s) d) (i * s) n)
+      ∙ ap (λ (xs : List ℕ). es ++ (z ++ drop s xs)) (drop_at es (drop (i * s) d) (i * s) n)
+      ∙ ap (λ (xs : List ℕ). es ++ (z ++ xs)) (drop-drop s (i * s) d ∙ ap (λ (j : ℕ). drop j d) m)
+      ∙ sym (append_assoc es z (drop ((i + 1) * s) d))
+      ∙ ap (λ (xs : List ℕ). (es ++ xs) ++ drop ((i + 1) * s) d) w
+      ∙ ap (λ (xs : List ℕ). xs ++ drop ((i + 1) * s) d) (sym (ap (encode_records D S C) u ∙ encode_push rs (entry r)))
 
   -- head and records are the table
-  pub written_is : (rs : List Entry) (n : ℕ) (d x y : List ℕ) → n ≡ length rs → 4 ≤ length d → x ≡ paste d 0 (encode_head D S C n) 4 → y ≡ paste x 4 (encode_records D S C rs) (n * record_size D S C) → y ≡ encode D S C rs ++ drop (table_size D S C n) d
-  written_is rs n d x y e l f k =
-      let hd = encode_head D S C n in
+  pub written_is : (rs : List Entry) (n m : ℕ) (d back x y : List ℕ) → n ≡ length rs → m ≡ table_size D S C n → back ≡ drop 4 d → x ≡ encode_head D S C n → y ≡ encode_records D S C rs ++ drop (n * record_size D S C) back → x ++ y ≡ encode D S C rs ++ drop m d
+  written_is rs n m d back x y e l b f k =
       let t = encode_records D S C rs in
-      let h4 : length hd ≡ 4 = length_spelt 4 _ in
-      let m : n * record_size D S C ≡ length t = ap (λ (z : ℕ). z * record_size D S C) e ∙ sym (length_encoded rs) in
-      let w : 4 + n * record_size D S C ≡ length (hd ++ t) = omega (arith, length-append hd t) in
-      k
-      ∙ ap (λ (z : List ℕ). paste z 4 t (n * record_size D S C)) f
-      ∙ paste-paste d 0 hd t 4 (n * record_size D S C) (sym h4) m (omega arith)
-      ∙ paste_all d 0 (hd ++ t) (4 + n * record_size D S C) w
-      ∙ ap (λ (z : ℕ). (hd ++ t) ++ drop z d) (zero-add (4 + n * record_size D S C))
-      ∙ ap (λ (z : ℕ). (encode_head D S C z ++ t) ++ drop (table_size D S C n) d) e
-
--- room enough, and not
-pub room_ok : (D S C : Kind) (n room : ℕ) → n ≤ 4095 → table_size D S C n ≤ room → Ok (table_size D S C n) ≡ write_verdict D S C n room
-room_ok D S C n room h k = sym (ap (λ (t : Bool). cond t (Err Short) (Ok (table_size D S C n))) (or_from (ltb 4095 n) (ltb room (table_size D S C n)) (le-ltb 4095 n h) (le-ltb room (table_size D S C n) k)))
-
-pub room_many : (D S C : Kind) (n room : ℕ) → 4095 < n → Err Short ≡ write_verdict D S C n room
-room_many D S C n room h = sym (ap (λ (t : Bool). cond t (Err Short) (Ok (table_size D S C n))) (or_left (ltb 4095 n) (ltb room (table_size D S C n)) (lt-ltb 4095 n h)))
+      let r : drop (n * record_size D S C) back ≡ drop m d = ap (drop (n * record_size D S C)) b ∙ drop-drop (n * record_size D S C) 4 d ∙ ap (λ (j : ℕ). drop j d) (sym l) in
+      ap (λ (xs : List ℕ). xs ++ y) f
+      ∙ ap (λ (xs : List ℕ). encode_head D S C n ++ xs) (k ∙ ap (λ (xs : List ℕ). t ++ xs) r)
+      ∙ sym (append_assoc (encode_head D S C n) t (drop m d))
+      ∙ ap (λ (j : ℕ). (encode_head D S C j ++ t) ++ drop m d) e

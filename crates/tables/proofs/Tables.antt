@@ -1,6 +1,7 @@
 -- The records of a table, by their places.
-use Rattle.std.proofs.Common.{◌≡◌, ℕ, zero, suc, ◌+◌, ◌*◌, ◌<◌, ◌≤◌, Bool, false, ◌||◌, eqb, List, [], ◌∷◌, ◌++◌, length, get_or, take, drop, sym, refl, ap, ◌∙◌, mul-le-mul_right, suc-mul, zero-mul, arith}
-use Rattle.std.proofs.lemmas.List.{drop-drop, get_or-map, length-map, at_drop_more, at_drop_all, take_more}
+use Rattle.std.proofs.Common.{◌≡◌, ℕ, zero, suc, ◌+◌, ◌*◌, ◌<◌, ◌≤◌, Bool, ◌||◌, eqb, List, [], ◌∷◌, length, get_or, take, drop, sym, refl, ap, ◌∙◌, mul-le-mul_right, suc-mul, zero-mul, arith}
+use Rattle.std.proofs.lemmas.List.{drop-drop, get_or-map, length-map}
+use Rattle.std.specs.List.{list_any}
 use Rattle.tables.specs.Bytes.{word}
 use Rattle.tables.specs.Format.{Kind, Entry, record_size, decode_record, decode_records}
 use Rattle.tables.specs.Verdict.{has, labels}
@@ -46,28 +47,7 @@ module _ (D S C : Kind) where
       ∙ ap (λ (r : Entry). r.label) (get_d_records n xs i (decode_record D S C []) h)
       ∙ label_is (drop (i * record_size D S C) xs)
 
-  -- where a record of a table begins
-  pub record_start : (bytes : List ℕ) (i size : ℕ) → size ≡ record_size D S C → drop (4 + i * size) bytes ≡ drop (i * record_size D S C) (drop 4 bytes)
-  record_start bytes i size e = ap (λ (k : ℕ). drop (4 + i * k) bytes) e ∙ sym (drop-drop (i * record_size D S C) 4 bytes)
-
-  -- the label read at a record is the one in the list
-  pub label_at : (bytes : List ℕ) (n i size m : ℕ) → i < n → size ≡ record_size D S C → m ≡ word (take 2 (drop (4 + i * size) bytes)) → get_or (labels (decode_records D S C n (drop 4 bytes))) i 0 ≡ m
-  label_at bytes n i size m h e f = get_d_labels n (drop 4 bytes) i h ∙ sym (f ∙ ap (λ (xs : List ℕ). word (take 2 xs)) (record_start bytes i size e))
-
-  -- one record more
-  pub records_push : (n : ℕ) (xs : List ℕ) → decode_records D S C (n + 1) xs ≡ decode_records D S C n xs ++ decode_record D S C (drop (n * record_size D S C) xs) ∷ []
-  records_push n xs =
-      let rs = decode_records D S C (n + 1) xs in
-      let d = decode_record D S C xs in
-      sym (take_records (n + 1) (n + 1) xs (omega arith))
-      ∙ take_more rs n d (omega (arith, length_records (n + 1) xs))
-      ∙ ap (λ (z : List Entry). z ++ get_or rs n d ∷ []) (take_records (n + 1) n xs (omega arith))
-      ∙ ap (λ (z : Entry). decode_records D S C n xs ++ z ∷ []) (get_d_records (n + 1) xs n d (omega arith))
-
--- looking for a number in a list, place by place
-pub has_more : (n : ℕ) (ms : List ℕ) (i m : ℕ) (b : Bool) → i < length ms → get_or ms i 0 ≡ m → eqb m n ≡ b → has n (drop i ms) ≡ (b || has n (drop (i + 1) ms))
-has_more n ms i m b h e t =
-    at_drop_more (has n) ms i 0 h ∙ ap (λ (x : Bool). x || has n (drop (i + 1) ms)) (ap (λ (z : ℕ). eqb z n) e ∙ t)
-
-pub has_all : (n : ℕ) (ms : List ℕ) (i : ℕ) → length ms ≤ i → has n (drop i ms) ≡ false
-has_all n ms i h = at_drop_all (has n) ms i h
+-- looking for a label among records
+pub has_any : (n : ℕ) (rs : List Entry) → list_any (λ r. eqb r.label n) rs ≡ has n (labels rs)
+has_any n [] = refl
+has_any n (r ∷ rs) = ap (λ (b : Bool). eqb r.label n || b) (has_any n rs)

@@ -1,14 +1,15 @@
 -- Loading and writing one after the other.
-use Rattle.std.proofs.Common.{◌≡◌, ℕ, ◌-◌, ◌≤◌, Bool, true, false, cond, ◌||◌, ltb, List, [], ◌∷◌, ◌++◌, map, length, take, drop, Ok, Err, Result, sym, refl, ap, ◌∙◌, arith}
+use Rattle.std.proofs.Common.{◌≡◌, ℕ, Bool, true, false, cond, ◌||◌, ltb, List, [], ◌∷◌, ◌++◌, map, length, take, drop, Ok, Err, Result, sym, refl, ap, ◌∙◌, subst, arith}
 use Rattle.std.specs.Int.Digits.{AllBelowBase}
 use Rattle.std.proofs.lemmas.List.{length-map, length-take-le, take_at}
+use Rattle.std.proofs.lemmas.Simd.{map-map}
 use Rattle.filters.specs.Meaning.{Record}
 use Rattle.tables.specs.declared.fault.LoadFault.{LoadFault}
 use Rattle.tables.specs.declared.fault.WriteFault.{WriteFault}
 use Rattle.tables.specs.declared.fault.WriteFault.TheVariants.{Short}
-use Rattle.tables.specs.declared.turn.TurnFault.TheVariants.{Load, Write}
+use Rattle.tables.specs.declared.turn.TurnFault.TheVariants.{Load}
 use Rattle.tables.specs.Format.{Kind, Entry, entry_of, filter_count, table_size, encode, decode}
-use Rattle.tables.specs.Memory.{write_verdict}
+use Rattle.tables.specs.Memory.{Loaded, write_verdict}
 use Rattle.tables.specs.Turn.{write_turn, load_turn, write_load}
 use Rattle.tables.specs.Verdict.{table_verdict}
 use Rattle.tables.proofs.Tables.{length_records}
@@ -41,32 +42,37 @@ pub turn_back : (v : Result ℕ LoadFault) (write : ℕ → Result ℕ WriteFaul
 turn_back v write e h = ap (λ (z : Result ℕ LoadFault). load_turn z write) h
 
 -- as many places are loaded as the head announces
-pub loaded_count : (D S C : Kind) {R : Type 0} (entry : R → Entry) (bytes : List ℕ) (n : ℕ) (after : List R) → n ≤ length after → map entry (take n after) ≡ decode D S C bytes → n ≡ filter_count bytes
-loaded_count D S C entry bytes n after h e =
-    sym (length-take-le n after h)
+pub placed : (D S C : Kind) {R : Type 0} (entry : R → Entry) (bytes : List ℕ) (n : ℕ) (before after : List R) → length after ≡ length before → Loaded entry (decode D S C bytes) before after (Ok n) → Loaded entry (decode D S C bytes) before after (Ok (filter_count bytes))
+placed D S C entry bytes n before after l m =
+    let k : n ≡ filter_count bytes =
+    sym (length-take-le n after (omega (arith, m.0)))
     ∙ sym (length-map (take n after) entry)
-    ∙ ap length e
+    ∙ ap length m.1
     ∙ length_records D S C (filter_count bytes) (drop 4 bytes)
+    in
+    subst (λ (j : ℕ). Loaded entry (decode D S C bytes) before after (Ok j)) k m
 
 -- ---- writing, then loading
 -- the part of the buffer that was written
-pub part_is : (n : ℕ) (table before after : List ℕ) → after ≡ table ++ drop n before → n ≡ length table → take (n - 0) after ≡ table
-part_is n table before after e l =
-    let z : n - 0 ≡ n = omega arith in
-    ap (λ (k : ℕ). take k after) z ∙ ap (take n) e ∙ take_at table (drop n before) n (sym l)
+pub written_part : (D S C : Kind) {R : Type 0} (entry : R → Entry) (rs : List R) (room n : ℕ) (before after : List ℕ) → Ok n ≡ write_verdict D S C (length rs) room → after ≡ encode D S C (map entry rs) ++ drop n before → take n after ≡ encode D S C (map entry rs)
+written_part D S C entry rs room n before after h e =
+    let l : n ≡ length (encode D S C (map entry rs)) = wrote_size D S C (length rs) room n h ∙ ap (table_size D S C) (sym (length-map rs entry)) ∙ sym (length_table D S C (map entry rs)) in
+    ap (take n) e ∙ take_at (encode D S C (map entry rs)) (drop n before) n (sym l)
 
-pub wrote_length : (D S C : Kind) {R : Type 0} (entry : R → Entry) (rs : List R) (room n : ℕ) → Ok n ≡ write_verdict D S C (length rs) room → n ≡ length (encode D S C (map entry rs))
-wrote_length D S C entry rs room n h =
-    wrote_size D S C (length rs) room n h ∙ ap (table_size D S C) (sym (length-map rs entry)) ∙ sym (length_table D S C (map entry rs))
+-- what was written of filters is read as their places
+pub read_again : (D S C : Kind) (pass : ℕ → Bool) {R X : Type 0} (entry : R → Entry) (record_of : X → R) (rs : List R) (fs : List X) (capacity : ℕ) (bytes : List ℕ) → bytes ≡ encode D S C (map entry rs) → rs ≡ map record_of fs
+    → (table_verdict D S C pass capacity (encode D S C (map (λ (f : X). entry (record_of f)) fs)) ≡ Ok (length fs)) × (decode D S C (encode D S C (map (λ (f : X). entry (record_of f)) fs)) ≡ map (λ (f : X). entry (record_of f)) fs)
+    → (table_verdict D S C pass capacity bytes ≡ Ok (length fs)) × (decode D S C bytes ≡ map entry rs)
+read_again D S C pass {R} {X} entry record_of rs fs capacity bytes e p b =
+    let m : map entry rs ≡ map (λ (f : X). entry (record_of f)) fs = ap (map entry) p ∙ map-map entry record_of fs in
+    let t = e ∙ ap (encode D S C) m in
+    (ap (table_verdict D S C pass capacity) t ∙ b.0, ap (decode D S C) t ∙ b.1 ∙ sym m)
 
 pub write_load_ok : (w : Result ℕ WriteFault) (v : Result ℕ LoadFault) (n m : ℕ) → Ok n ≡ w → Ok m ≡ v → Ok m ≡ write_load w v
 write_load_ok w v n m e f = λ i. write_load (e i) (f i)
 
 pub write_load_err : (w : Result ℕ WriteFault) (v : Result ℕ LoadFault) (n : ℕ) (x : LoadFault) → Ok n ≡ w → Err x ≡ v → Err (Load x) ≡ write_load w v
 write_load_err w v n x e f = λ i. write_load (e i) (f i)
-
-pub no_write : (w : Result ℕ WriteFault) (v : Result ℕ LoadFault) (x : WriteFault) → Err x ≡ w → Err (Write x) ≡ write_load w v
-no_write w v x e = λ i. write_load (e i) v
 
 -- an entry says all of its place, where numbers say all of their patterns
 entry_same : {P Q R : Type 0} (nd : P → ℕ) (ns : Q → ℕ) (nc : R → ℕ) → ((a b : P) → nd a ≡ nd b → a ≡ b) → ((a b : Q) → ns a ≡ ns b → a ≡ b) → ((a b : R) → nc a ≡ nc b → a ≡ b) → (x y : Record P Q R) → entry_of nd ns nc x ≡ entry_of nd ns nc y → x ≡ y
@@ -95,10 +101,6 @@ map_same f j (x ∷ xs) (y ∷ ys) e =
 
 pub places_same : {P Q R : Type 0} (nd : P → ℕ) (ns : Q → ℕ) (nc : R → ℕ) → ((a b : P) → nd a ≡ nd b → a ≡ b) → ((a b : Q) → ns a ≡ ns b → a ≡ b) → ((a b : R) → nc a ≡ nc b → a ≡ b) → (xs ys : List (Record P Q R)) → map (entry_of nd ns nc) xs ≡ map (entry_of nd ns nc) ys → xs ≡ ys
 places_same nd ns nc jd js jc = map_same (entry_of nd ns nc) (entry_same nd ns nc jd js jc)
-
-pub map_two : {X Y Z : Type 0} (f : Y → Z) (h : X → Y) (xs : List X) → map f (map h xs) ≡ map (λ (x : X). f (h x)) xs
-map_two f h [] = refl
-map_two f h (x ∷ xs) = ap (λ (zs : List _). f (h x) ∷ zs) (map_two f h xs)
 
 pub ok_same : (n m : ℕ) → ◌≡◌ {A = Result ℕ LoadFault} (Ok n) (Ok m) → n ≡ m
 ok_same n m e = cc

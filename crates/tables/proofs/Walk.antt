@@ -1,41 +1,17 @@
 -- The verdict on a table's records, record by record.
-use Rattle.std.proofs.Common.{◌≡◌, ℕ, suc, ◌+◌, ◌*◌, ◌<◌, ◌≤◌, Bool, List, [], ◌∷◌, ◌++◌, length, get_or, take, drop, IfOk, Ok, Err, Result, sym, refl, ap, ◌∙◌, subst, mul-le-mul_right, arith}
+use Rattle.std.proofs.Common.{◌≡◌, ℕ, suc, ◌+◌, ◌<◌, Bool, List, [], ◌∷◌, ◌++◌, length, get_or, take, drop, IfOk, Ok, Err, Result, sym, refl, ap, ◌∙◌, subst, arith}
 use Rattle.std.proofs.lemmas.List.{at_drop_more, at_drop_all, map_more, length-map, length-take-le}
 use Rattle.tables.specs.declared.fault.RecordFault.{RecordFault}
 use Rattle.tables.specs.declared.fault.InRecord.{InRecord}
 use Rattle.tables.specs.declared.fault.LoadFault.{LoadFault}
-use Rattle.tables.specs.Faults.{in_record}
-use Rattle.tables.specs.Format.{Kind, Entry, record_size, table_size, decode_record, decode_records}
+use Rattle.tables.specs.declared.fault.LoadFault.TheVariants.{Record}
+use Rattle.tables.specs.Format.{Kind, Entry}
 use Rattle.tables.specs.Verdict.{has, labels, counted, onward, entry_verdict, entries_verdict}
-use Rattle.tables.proofs.Tables.{row_below, length_records, get_d_records, take_records, record_start}
-
--- the next record is inside the table
-pub next_fits : (D S C : Kind) (i n len : ℕ) → i < n → table_size D S C n ≤ len → table_size D S C (i + 1) ≤ len
-next_fits D S C i n len h l =
-    let k : i + 1 ≤ n = omega arith in
-    let m : (i + 1) * record_size D S C ≤ n * record_size D S C = mul-le-mul_right (record_size D S C) k in
-    omega arith
-
--- a record is inside the table, by the place where it begins
-pub record_fits : (D S C : Kind) (i n size len : ℕ) → i < n → size ≡ record_size D S C → table_size D S C n ≤ len → 4 + i * size + record_size D S C ≤ len
-record_fits D S C i n size len h e l =
-    let f : i * size ≡ i * record_size D S C = ap (λ (k : ℕ). i * k) e in
-    omega (arith, row_below i n (record_size D S C) h)
-
--- an answer on the record that was read is one on the record that the table has
-pub verdict_same : (D S C : Kind) (pass : ℕ → Bool) (seen : List ℕ) (u : Bool) (r s : Entry) → u ≡ has r.label seen → r ≡ s → entry_verdict D S C pass u r ≡ entry_verdict D S C pass (has s.label seen) s
-verdict_same D S C pass seen u r s f h = ap (λ (t : Bool). entry_verdict D S C pass t r) f ∙ ap (λ (z : Entry). entry_verdict D S C pass (has z.label seen) z) h
-
-pub counted_at : (D S C : Kind) (pass : ℕ → Bool) (seen : List ℕ) (k : ℕ) (u : Bool) (r s : Entry) (a : Result (Unit {0}) RecordFault) → a ≡ entry_verdict D S C pass u r → u ≡ has r.label seen → r ≡ s → counted k a ≡ counted k (entry_verdict D S C pass (has s.label seen) s)
-counted_at D S C pass seen k u r s a e f h = ap (counted k) (e ∙ verdict_same D S C pass seen u r s f h)
 
 -- a record that passes, passes with its number
 pub counted_passed : (k : ℕ) (a : Result (Unit {0}) RecordFault) (r : Result (Unit {0}) InRecord) (v w : Result (Unit {0}) RecordFault) → r ≡ counted k a → w ≡ v → IfOk a (λ _. v ≡ Ok tt) → IfOk r (λ _. w ≡ Ok tt)
 counted_passed k (Ok x) r v w e f h = subst (λ (z : Result (Unit {0}) InRecord). IfOk z (λ _. w ≡ Ok tt)) (sym e) (f ∙ h)
 counted_passed k (Err x) r v w e f h = subst (λ (z : Result (Unit {0}) InRecord). IfOk z (λ _. w ≡ Ok tt)) (sym e) tt
-
-pub record_same : (D S C : Kind) (bytes : List ℕ) (i size : ℕ) → size ≡ record_size D S C → decode_record D S C (drop (4 + i * size) bytes) ≡ decode_record D S C (drop (4 + i * record_size D S C) bytes)
-record_same D S C bytes i size e = ap (λ (k : ℕ). decode_record D S C (drop (4 + i * k) bytes)) e
 
 -- a record that passes leaves the answer to the rest, and one that does not is the answer
 pub onward_ok : (k m : ℕ) (v : Result (Unit {0}) RecordFault) (x : Unit {0}) (rest : Result ℕ LoadFault) → Ok x ≡ counted k v → onward m v rest ≡ rest
@@ -45,9 +21,9 @@ onward_ok k m (Err e) x rest h = let z : ◌≡◌ {A = ℕ} 0 1 = cc in absurd 
 pub onward_passed : (m : ℕ) (v : Result (Unit {0}) RecordFault) (rest : Result ℕ LoadFault) → v ≡ Ok tt → onward m v rest ≡ rest
 onward_passed m v rest e = ap (λ (z : Result (Unit {0}) RecordFault). onward m z rest) e
 
-pub onward_err : (k : ℕ) (v : Result (Unit {0}) RecordFault) (e : InRecord) (rest : Result ℕ LoadFault) → Err e ≡ counted k v → Err (in_record e) ≡ onward k v rest
+pub onward_err : (k : ℕ) (v : Result (Unit {0}) RecordFault) (e : InRecord) (rest : Result ℕ LoadFault) → Err e ≡ counted k v → Err (Record e) ≡ onward k v rest
 onward_err k (Ok y) e rest h = let z : ◌≡◌ {A = ℕ} 0 1 = cc in absurd (omega arith)
-onward_err k (Err f) e rest h = let p : e ≡ record { «record» = k; fault = f } = cc in ap (λ (z : InRecord). Err (in_record z)) p
+onward_err k (Err f) e rest h = let p : e ≡ record { «record» = k; fault = f } = cc in ap (λ (z : InRecord). Err (Record z)) p
 
 module _ (D S C : Kind) (pass : ℕ → Bool) where
   -- one entry on
@@ -66,16 +42,14 @@ module _ (D S C : Kind) (pass : ℕ → Bool) where
       at_drop_all (entries_verdict D S C pass (labels (take i rs))) rs i (omega arith)
       ∙ ap Ok (omega (arith, length-map (take i rs) (λ (r : Entry). r.label), length-take-le i rs (omega arith)))
 
-  -- one record on
-  pub records_more : (bytes : List ℕ) (n i : ℕ) → i < n → entries_verdict D S C pass (labels (take i (decode_records D S C n (drop 4 bytes)))) (drop i (decode_records D S C n (drop 4 bytes))) ≡ onward (i + 1) (entry_verdict D S C pass (has (decode_record D S C (drop (4 + i * record_size D S C) bytes)).label (labels (decode_records D S C i (drop 4 bytes)))) (decode_record D S C (drop (4 + i * record_size D S C) bytes))) (entries_verdict D S C pass (labels (take (i + 1) (decode_records D S C n (drop 4 bytes)))) (drop (i + 1) (decode_records D S C n (drop 4 bytes))))
-  records_more bytes n i h =
-      let rs = decode_records D S C n (drop 4 bytes) in
-      let rest = entries_verdict D S C pass (labels (take (i + 1) rs)) (drop (i + 1) rs) in
-      let d = decode_record D S C bytes in
-      let e : get_or rs i d ≡ decode_record D S C (drop (4 + i * record_size D S C) bytes) = get_d_records D S C n (drop 4 bytes) i d h ∙ ap (decode_record D S C) (sym (record_start D S C bytes i (record_size D S C) refl)) in
-      entries_more rs i d (omega (arith, length_records D S C n (drop 4 bytes)))
-      ∙ ap (λ (s : List Entry). onward (i + 1) (entry_verdict D S C pass (has (get_or rs i d).label (labels s)) (get_or rs i d)) rest) (take_records D S C n i (drop 4 bytes) (omega arith))
-      ∙ ap (λ (r : Entry). onward (i + 1) (entry_verdict D S C pass (has r.label (labels (decode_records D S C i (drop 4 bytes)))) r) rest) e
-
-  pub records_all : (bytes : List ℕ) (n i : ℕ) → i ≡ n → entries_verdict D S C pass (labels (take i (decode_records D S C n (drop 4 bytes)))) (drop i (decode_records D S C n (drop 4 bytes))) ≡ Ok n
-  records_all bytes n i e = entries_all (decode_records D S C n (drop 4 bytes)) i (omega (arith, length_records D S C n (drop 4 bytes))) ∙ ap Ok e
+  -- one record on, by what was answered of it
+  pub one_more : (es : List Entry) (n i m : ℕ) (r d : Entry) (used : Bool) (v : Result (Unit {0}) RecordFault) → i ≡ n → m ≡ i + 1 → i < length es → d ≡ get_or es i d → r ≡ d → used ≡ has r.label (labels (take i es)) → v ≡ entry_verdict D S C pass used r → entries_verdict D S C pass (labels (take n es)) (drop n es) ≡ onward (i + 1) v (entries_verdict D S C pass (labels (take m es)) (drop m es))
+  one_more es n i m r d used v e f h at same u k =
+      let seen = labels (take i es) in
+      let rest = λ (j : ℕ). entries_verdict D S C pass (labels (take j es)) (drop j es) in
+      ap rest (sym e)
+      ∙ entries_more es i d h
+      ∙ ap (λ (z : Entry). onward (i + 1) (entry_verdict D S C pass (has z.label seen) z) (rest (i + 1))) (sym (same ∙ at))
+      ∙ ap (λ (b : Bool). onward (i + 1) (entry_verdict D S C pass b r) (rest (i + 1))) (sym u)
+      ∙ ap (λ (z : Result (Unit {0}) RecordFault). onward (i + 1) z (rest (i + 1))) (sym k)
+      ∙ ap (λ (j : ℕ). onward (i + 1) v (rest j)) (sym f)

@@ -1,12 +1,11 @@
 -- Numbers in bytes: reading and writing them byte by byte.
-use Rattle.std.proofs.Common.{◌≡◌, ℕ, zero, suc, ◌+◌, ◌-◌, ◌*◌, ◌/◌, ◌%◌, ◌^◌, ◌<◌, ◌≤◌, List, [], ◌∷◌, length, get_or, take, drop, set, sym, refl, ap, ◌∙◌, subst, mod-eq_of_lt, pow-suc, add-one, arith, pow-add}
+use Rattle.std.proofs.Common.{◌≡◌, ℕ, zero, suc, ◌+◌, ◌*◌, ◌/◌, ◌%◌, ◌^◌, ◌<◌, ◌≤◌, List, [], ◌∷◌, length, get_or, take, drop, sym, refl, ap, ◌∙◌, subst, mod-eq_of_lt, pow-suc, add-one, arith, pow-add}
 use native.Mathlib.Nat.{pow-le-pow_right}
-use lib.Bits.{bit_or, bit_and}
-use lib.Seq.{paste}
-use Rattle.std.proofs.lemmas.Nat.{or_shifted, and_mask}
-use Rattle.std.proofs.lemmas.List.Edits.{paste_more}
+use lib.Bits.{bit_or}
+use Rattle.std.proofs.lemmas.Nat.{or_shifted}
 use Rattle.std.proofs.lemmas.Int.Digits.{number_more}
-use Rattle.std.proofs.lemmas.List.{get_or-drop, length-drop, length-append}
+use Rattle.std.proofs.lemmas.List.{length-append}
+use Rattle.std.specs.Int.{bytes_high_first}
 use Rattle.tables.specs.Bytes.{word, spelt, spell, total}
 
 pub word_none : word [] ≡ 0
@@ -33,16 +32,11 @@ move_in_lt n b i h k =
     omega arith
 
 -- the number of the bytes read so far, one byte on
-pub read_more : (bs : List ℕ) (at i n : ℕ) → at + i < length bs → i < 16 → n ≡ word (take i (drop at bs)) → n < 256 ^ i → get_or bs (at + i) 0 < 256 → (bit_or (n * 256 % 2 ^ 128) (get_or bs (at + i) 0) ≡ word (take (i + 1) (drop at bs))) × (bit_or (n * 256 % 2 ^ 128) (get_or bs (at + i) 0) < 256 ^ (i + 1))
-read_more bs at i n h l e s k =
-    let m = move_in n (get_or bs (at + i) 0) i s l k in
-    let lt = move_in_lt n (get_or bs (at + i) 0) i s k in
-    let inside : i < length (drop at bs) = omega (arith, length-drop at bs) in (
-      m
-          ∙ ap (λ (z : ℕ). z * 256 + get_or bs (at + i) 0) e
-          ∙ ap (λ (z : ℕ). word (take i (drop at bs)) * 256 + z) (sym (get_or-drop at bs i 0))
-          ∙ sym (word_more (drop at bs) i inside),
-      subst (λ (z : ℕ). z < 256 ^ (i + 1)) (sym m) lt,
+pub read_more : (bs : List ℕ) (i n : ℕ) → i < length bs → i < 16 → n ≡ word (take i bs) → n < 256 ^ i → get_or bs i 0 < 256 → (bit_or (n * 256 % 2 ^ 128) (get_or bs i 0) ≡ word (take (i + 1) bs)) × (bit_or (n * 256 % 2 ^ 128) (get_or bs i 0) < 256 ^ (i + 1))
+read_more bs i n h l e s k =
+    let m = move_in n (get_or bs i 0) i s l k in (
+      m ∙ ap (λ (z : ℕ). z * 256 + get_or bs i 0) e ∙ sym (word_more bs i h),
+      subst (λ (z : ℕ). z < 256 ^ (i + 1)) (sym m) (move_in_lt n (get_or bs i 0) i s k),
     )
 
 pub length_spelt : (k n : ℕ) → length (spelt k n) ≡ k
@@ -50,14 +44,19 @@ unfolding spelt
 length_spelt zero n = refl
 length_spelt (suc k) n = ap suc (length_spelt k n)
 
--- the byte at a place
-pub get_d_spelt : (k n i : ℕ) → i < k → get_or (spelt k n) i 0 ≡ n / 256 ^ (k - 1 - i) % 256
+-- the library's bytes of a number are these
+pub bytes_spelt : (k n : ℕ) → bytes_high_first k n ≡ spelt k n
 unfolding spelt
-get_d_spelt zero n i h = absurd (omega arith)
-get_d_spelt (suc k) n zero h = let e : suc k - 1 - 0 ≡ k = omega arith in ap (λ (j : ℕ). n / 256 ^ j % 256) (sym e)
-get_d_spelt (suc k) n (suc i) h =
-    let e : suc k - 1 - suc i ≡ k - 1 - i = omega arith in
-    get_d_spelt k n i (omega arith) ∙ ap (λ (j : ℕ). n / 256 ^ j % 256) (sym e)
+bytes_spelt zero n = refl
+bytes_spelt (suc zero) n = ap {B = List ℕ} (λ b. b ∷ []) (omega arith)
+bytes_spelt (suc (suc k)) n = ap {B = List ℕ} (λ bs. n / 256 ^ suc k % 256 ∷ bs) (bytes_spelt (suc k) n)
+
+-- the last of them
+pub drop_spelt : (j k m n : ℕ) → m ≡ j + k → drop j (spelt m n) ≡ spelt k n
+unfolding spelt
+drop_spelt zero k m n e = ap (λ (z : ℕ). spelt z n) (omega arith)
+drop_spelt (suc j) k zero n e = absurd (omega arith)
+drop_spelt (suc j) k (suc m) n e = drop_spelt j k m n (omega arith)
 
 -- a byte is eight bits
 pub bytes_pow : (k : ℕ) → 2 ^ (8 * k) ≡ 256 ^ k
@@ -68,16 +67,6 @@ bytes_pow (suc k) =
 
 pub size_pow : (size : ℕ) → size % 8 ≡ 0 → 256 ^ (size / 8) ≡ 2 ^ size
 size_pow size h = let e : 8 * (size / 8) ≡ size = omega arith in sym (bytes_pow (size / 8)) ∙ ap (λ (j : ℕ). 2 ^ j) e
-
--- a byte taken out by a shift and a mask
-pub take_out : (n j : ℕ) → bit_and (n / 2 ^ (8 * j)) 255 ≡ n / 256 ^ j % 256
-take_out n j = and_mask (n / 2 ^ (8 * j)) 8 ∙ ap (λ (z : ℕ). n / z % 256) (bytes_pow j)
-
--- the bytes written so far, one byte on
-pub write_more : (d : List ℕ) (at k n i : ℕ) → at + k ≤ length d → i < k → set (paste d at (spelt k n) i) (at + i) (bit_and (n / 2 ^ (8 * (k - 1 - i))) 255) ≡ paste d at (spelt k n) (i + 1)
-write_more d at k n i h l =
-    ap (set (paste d at (spelt k n) i) (at + i)) (take_out n (k - 1 - i) ∙ sym (get_d_spelt k n i l))
-    ∙ paste_more d at (spelt k n) i 0 (omega arith) (omega (arith, length_spelt k n))
 
 -- a number of as many bytes as a kind has fits the plain number that keeps it
 pub narrow_same : (n size span : ℕ) → size % 8 ≡ 0 → size ≤ span → n < 256 ^ (size / 8) → n % 2 ^ span ≡ n

@@ -96,6 +96,10 @@ module _ (D S C : Kind) where
   decode_records zero bytes = []
   decode_records (suc n) bytes = decode_record bytes ∷ decode_records n (drop record_size bytes)
 
+  -- the entries of whole records, one behind the other
+  abbrev pub entries : List ℕ → List Entry
+  entries bytes = decode_records (length bytes / record_size) bytes
+
   -- the table of a list of entries
   abbrev pub encode : List Entry → List ℕ
   encode rs = encode_head (length rs) ++ encode_records rs

@@ -1,18 +1,20 @@
 -- Which tables are accepted, and which refusal another one meets at which record.
-use Rattle.std.specs.Prelude.{◌≡◌, ℕ, suc, Bool, false, cond, ◌&&◌, ◌||◌, List, [], ◌∷◌, ◌++◌, map, length, is_some, Ok, Err, Option, Result, ◌==◌, nat_lt}
+use Rattle.std.specs.Prelude.{◌≡◌, ℕ, suc, Bool, cond, ◌&&◌, List, [], ◌∷◌, ◌++◌, map, length, is_some, Ok, Err, Option, Result, ◌==◌, nat_lt}
+use Rattle.std.specs.List.{list_any}
 use Rattle.kinds.specs.Strings.{bits}
 use Rattle.kinds.specs.declared.written.PatternFault.TheVariants.{Unlawful}
 use Rattle.filters.specs.declared.fault.FilterFault.{FilterFault}
 use Rattle.filters.specs.declared.fault.FilterFault.TheVariants.{ZeroLabel}
+use Rattle.filters.specs.Meaning.{Record}
 use Rattle.filters.specs.Refusals.{body_verdict, then_used}
 use Rattle.tables.specs.declared.fault.RecordFault.{RecordFault}
 use Rattle.tables.specs.declared.fault.RecordFault.TheVariants.{Filter, Pattern}
-use Rattle.tables.specs.declared.fault.TableFault.{TableFault}
-use Rattle.tables.specs.declared.fault.TableFault.TheVariants.{Short, Kind as OtherKind, Length, Full}
+use Rattle.tables.specs.declared.fault.HeadFault.{HeadFault}
+use Rattle.tables.specs.declared.fault.HeadFault.TheVariants.{Short, Kind as OtherKind, Length, Full}
 use Rattle.tables.specs.declared.fault.InRecord.{InRecord}
 use Rattle.tables.specs.declared.fault.LoadFault.{LoadFault}
+use Rattle.tables.specs.declared.fault.LoadFault.TheVariants.{Head, Record as OfRecord}
 use Rattle.tables.specs.Bytes.{nth}
-use Rattle.tables.specs.Faults.{in_head, in_record}
 use Rattle.tables.specs.Format.{Kind, Entry, head_fields, filter_count, table_size, decode}
 
 -- `lawful` tells the numbers of lawful patterns from those of the others
@@ -26,27 +28,31 @@ layered (Err e) = Err (Filter e)
 
 -- one of the numbers is n
 abbrev pub has : ℕ → List ℕ → Bool
-has n [] = false
-has n (m ∷ ms) = m == n || has n ms
+has n ms = list_any (λ m. m == n) ms
 
 -- what follows a record: its refusal, with the record counted from 1, or what the rest answers
 abbrev pub onward : ℕ → Result (Unit {0}) RecordFault → Result ℕ LoadFault → Result ℕ LoadFault
-onward i (Err e) rest = Err (in_record (record { «record» = i; fault = e }))
+onward i (Err e) rest = Err (OfRecord (record { «record» = i; fault = e }))
 onward i (Ok x) rest = rest
 
 -- what follows the head: its refusal, or what the records answer
-abbrev pub behind_head : Result ℕ TableFault → Result ℕ LoadFault → Result ℕ LoadFault
-behind_head (Err e) rest = Err (in_head e)
+abbrev pub behind_head : Result ℕ HeadFault → Result ℕ LoadFault → Result ℕ LoadFault
+behind_head (Err e) rest = Err (Head e)
 behind_head (Ok n) rest = rest
+
+-- what follows n records that are checked one by one: their first refusal, or how many they are
+abbrev pub behind_records : ℕ → Result (Unit {0}) InRecord → Result ℕ LoadFault
+behind_records n (Err e) = Err (OfRecord e)
+behind_records n (Ok x) = Ok n
 
 -- a record's answer, with the record counted from 1
 abbrev pub counted : ℕ → Result (Unit {0}) RecordFault → Result (Unit {0}) InRecord
 counted i (Err e) = Err (record { «record» = i; fault = e })
 counted i (Ok x) = Ok tt
 
--- the labels of records
-abbrev pub labels : List Entry → List ℕ
-labels rs = map (λ (r : Entry). r.label) rs
+-- the labels of records, in their order
+abbrev pub labels : {D S P : Type 0} → List (Record D S P) → List ℕ
+labels rs = map (λ r. r.label) rs
 
 -- ---- the head
 module _ (D S C : Kind) where
@@ -55,7 +61,7 @@ module _ (D S C : Kind) where
   same_kinds fs = (nth fs 0) == 1 && ((nth fs 1) == D.code && ((nth fs 2) == S.code && (nth fs 3) == C.code))
 
   -- the first refusal of a table by its head and its length, where `capacity` filters have room, or how many filters it has
-  abbrev pub head_verdict : ℕ → List ℕ → Result ℕ TableFault
+  abbrev pub head_verdict : ℕ → List ℕ → Result ℕ HeadFault
   head_verdict capacity bytes =
       cond (nat_lt (length bytes) 4) (Err Short)
       (cond (same_kinds (head_fields bytes))

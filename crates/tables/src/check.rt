@@ -3,13 +3,13 @@ ghost use Rattle.std.specs.Prelude.{◌≡◌, ℕ, ◌+◌, ◌*◌, ◌<◌, �
 ghost use Rattle.kinds.specs.Strings.{bits};
 ghost use Rattle.filters.specs.Meaning.{respelt};
 ghost use Rattle.filters.specs.Refusals.{body_verdict};
-ghost use Rattle.tables.specs.Format.{kind, entry_of, filter_count, table_size, record_size, decode_record, decode_records};
-ghost use Rattle.tables.specs.Verdict.{Tells, has, labels, counted, entry_verdict, entries_verdict, head_verdict, table_verdict};
+ghost use Rattle.tables.specs.Format.{kind, entry_of, filter_count, table_size, record_size, entries};
+ghost use Rattle.tables.specs.Verdict.{Tells, has, labels, counted, behind_records, entry_verdict, entries_verdict, head_verdict, table_verdict};
 
-use crate::fault::{InRecord, LoadFault, RecordFault, TableFault};
+use crate::fault::{HeadFault, InRecord, LoadFault, RecordFault};
 use crate::field::Head;
-use crate::number::number_at;
-use crate::record::{record_at, record_size};
+use crate::number::number_of;
+use crate::record::{label_of, read_record, record_size};
 use filters::check::check_body;
 use filters::directive::Directive;
 use filters::fault::FilterFault;
@@ -56,18 +56,13 @@ fn check_record<D: Address, S: Address, C: Cost>(
     Ok(())
 }
 
-// Whether one of the first `count` records has the label.
-fn is_label_before<D: Address, S: Address, C: Cost>(bytes: &[u8], count: usize, label: u16) -> bool
-    requires { (table_size (kind D.Written.CODE D.Written.SIZE) (kind S.Written.CODE S.Written.SIZE) (kind C.Written.CODE C.Written.SIZE) count ≤ length bytes.now) × (count ≤ 4095) }
-    ensures { result ≡ has label (labels (decode_records (kind D.Written.CODE D.Written.SIZE) (kind S.Written.CODE S.Written.SIZE) (kind C.Written.CODE C.Written.SIZE) count (drop 4 bytes.now))) }
+// Whether one of the records has the label.
+fn is_label_in<D: Address, S: Address, C: Cost>(records: &[u8], label: u16) -> bool
+    ensures { result ≡ has label (labels (entries (kind D.Written.CODE D.Written.SIZE) (kind S.Written.CODE S.Written.SIZE) (kind C.Written.CODE C.Written.SIZE) records.now)) }
 {
-    let size = record_size::<D, S, C>();
-    for earlier in 0..count {
-        if number_at(bytes, 4 + earlier * size, 2) as u16 == label {
-            return true;
-        }
-    }
-    false
+    records
+        .chunks_exact(record_size::<D, S, C>())
+        .any(|record| label_of(record) == label)
 }
 
 // The answer on the record at a place, counted from 0: a refusal names the record, counted from 1.
@@ -75,65 +70,51 @@ fn in_record(i: usize, answer: Result<(), RecordFault>) -> Result<(), InRecord>
     requires { i < 4095 }
     ensures { result ≡ counted (i + 1) answer }
 {
-    match answer {
-        Ok(()) => Ok(()),
-        Err(fault) => Err(InRecord {
-            record: i as u16 + 1,
-            fault,
-        }),
-    }
+    answer.map_err(|fault| InRecord {
+        record: i as u16 + 1,
+        fault,
+    })
 }
 
-// The refusal of the record at a place, counted from 0.
-fn check_at<D: Address, S: Address, C: Cost>(bytes: &[u8], i: usize) -> Result<(), InRecord>
-    requires { (table_size (kind D.Written.CODE D.Written.SIZE) (kind S.Written.CODE S.Written.SIZE) (kind C.Written.CODE C.Written.SIZE) (i + 1) ≤ length bytes.now) × (i < 4095) }
-    ensures answer { (lawful : ℕ → Bool) → Tells C.Written.number C.Written.reads lawful → result ≡ counted (i + 1) (entry_verdict (kind D.Written.CODE D.Written.SIZE) (kind S.Written.CODE S.Written.SIZE) (kind C.Written.CODE C.Written.SIZE) lawful (has (decode_record (kind D.Written.CODE D.Written.SIZE) (kind S.Written.CODE S.Written.SIZE) (kind C.Written.CODE C.Written.SIZE) (drop (4 + i * record_size (kind D.Written.CODE D.Written.SIZE) (kind S.Written.CODE S.Written.SIZE) (kind C.Written.CODE C.Written.SIZE)) bytes.now)).label (labels (decode_records (kind D.Written.CODE D.Written.SIZE) (kind S.Written.CODE S.Written.SIZE) (kind C.Written.CODE C.Written.SIZE) i (drop 4 bytes.now)))) (decode_record (kind D.Written.CODE D.Written.SIZE) (kind S.Written.CODE S.Written.SIZE) (kind C.Written.CODE C.Written.SIZE) (drop (4 + i * record_size (kind D.Written.CODE D.Written.SIZE) (kind S.Written.CODE S.Written.SIZE) (kind C.Written.CODE C.Written.SIZE)) bytes.now))) }
-    ensures passed { OnOk result (entry_verdict (kind D.Written.CODE D.Written.SIZE) (kind S.Written.CODE S.Written.SIZE) (kind C.Written.CODE C.Written.SIZE) (λ _. true) (has (decode_record (kind D.Written.CODE D.Written.SIZE) (kind S.Written.CODE S.Written.SIZE) (kind C.Written.CODE C.Written.SIZE) (drop (4 + i * record_size (kind D.Written.CODE D.Written.SIZE) (kind S.Written.CODE S.Written.SIZE) (kind C.Written.CODE C.Written.SIZE)) bytes.now)).label (labels (decode_records (kind D.Written.CODE D.Written.SIZE) (kind S.Written.CODE S.Written.SIZE) (kind C.Written.CODE C.Written.SIZE) i (drop 4 bytes.now)))) (decode_record (kind D.Written.CODE D.Written.SIZE) (kind S.Written.CODE S.Written.SIZE) (kind C.Written.CODE C.Written.SIZE) (drop (4 + i * record_size (kind D.Written.CODE D.Written.SIZE) (kind S.Written.CODE S.Written.SIZE) (kind C.Written.CODE C.Written.SIZE)) bytes.now)) ≡ Ok tt) }
+// The first refusal of records, if there is one.
+fn check_records<D: Address, S: Address, C: Cost>(records: &[u8]) -> Result<(), InRecord>
+    requires { length (entries (kind D.Written.CODE D.Written.SIZE) (kind S.Written.CODE S.Written.SIZE) (kind C.Written.CODE C.Written.SIZE) records.now) ≤ 4095 }
+    ensures answer { (lawful : ℕ → Bool) → Tells C.Written.number C.Written.reads lawful → behind_records (length (entries (kind D.Written.CODE D.Written.SIZE) (kind S.Written.CODE S.Written.SIZE) (kind C.Written.CODE C.Written.SIZE) records.now)) result ≡ entries_verdict (kind D.Written.CODE D.Written.SIZE) (kind S.Written.CODE S.Written.SIZE) (kind C.Written.CODE C.Written.SIZE) lawful [] (entries (kind D.Written.CODE D.Written.SIZE) (kind S.Written.CODE S.Written.SIZE) (kind C.Written.CODE C.Written.SIZE) records.now) }
+    ensures passed { OnOk result (entries_verdict (kind D.Written.CODE D.Written.SIZE) (kind S.Written.CODE S.Written.SIZE) (kind C.Written.CODE C.Written.SIZE) (λ _. true) [] (entries (kind D.Written.CODE D.Written.SIZE) (kind S.Written.CODE S.Written.SIZE) (kind C.Written.CODE C.Written.SIZE) records.now) ≡ Ok (length (entries (kind D.Written.CODE D.Written.SIZE) (kind S.Written.CODE S.Written.SIZE) (kind C.Written.CODE C.Written.SIZE) records.now))) }
 {
-    let place = record_at::<D, S, C>(bytes, 4 + i * record_size::<D, S, C>());
-    let used = is_label_before::<D, S, C>(bytes, i, place.label);
-    in_record(i, check_record::<D, S, C>(&place, used))
-}
-
-// The first refusal of a table's records, or how many there are.
-fn check_records<D: Address, S: Address, C: Cost>(
-    bytes: &[u8],
-    count: usize,
-) -> Result<usize, LoadFault>
-    requires { (table_size (kind D.Written.CODE D.Written.SIZE) (kind S.Written.CODE S.Written.SIZE) (kind C.Written.CODE C.Written.SIZE) count ≤ length bytes.now) × (count ≤ 4095) }
-    ensures answer { (lawful : ℕ → Bool) → Tells C.Written.number C.Written.reads lawful → result ≡ entries_verdict (kind D.Written.CODE D.Written.SIZE) (kind S.Written.CODE S.Written.SIZE) (kind C.Written.CODE C.Written.SIZE) lawful [] (decode_records (kind D.Written.CODE D.Written.SIZE) (kind S.Written.CODE S.Written.SIZE) (kind C.Written.CODE C.Written.SIZE) count (drop 4 bytes.now)) }
-    ensures passed { IfOk result (λ n. (n ≡ count) × (entries_verdict (kind D.Written.CODE D.Written.SIZE) (kind S.Written.CODE S.Written.SIZE) (kind C.Written.CODE C.Written.SIZE) (λ _. true) [] (decode_records (kind D.Written.CODE D.Written.SIZE) (kind S.Written.CODE S.Written.SIZE) (kind C.Written.CODE C.Written.SIZE) count (drop 4 bytes.now)) ≡ Ok count)) }
-{
-    for i in 0..count {
-        check_at::<D, S, C>(bytes, i)?;
+    let size = record_size::<D, S, C>();
+    for (i, record) in records.chunks_exact(size).enumerate() {
+        let place = read_record::<D, S, C>(record);
+        let used = is_label_in::<D, S, C>(&records[..i * size], place.label);
+        in_record(i, check_record::<D, S, C>(&place, used))?;
     }
-    Ok(count)
+    Ok(())
 }
 
 // The refusal of a table by its head and its length, or how many filters it has.
 fn check_head<D: Address, S: Address, C: Cost>(
     bytes: &[u8],
     capacity: usize,
-) -> Result<usize, TableFault>
+) -> Result<usize, HeadFault>
     ensures { result ≡ head_verdict (kind D.Written.CODE D.Written.SIZE) (kind S.Written.CODE S.Written.SIZE) (kind C.Written.CODE C.Written.SIZE) capacity bytes.now }
 {
     if bytes.len() < 4 {
-        return Err(TableFault::Short);
+        return Err(HeadFault::Short);
     }
-    let head = Head::unpack(number_at(bytes, 0, 4) as u32);
+    let head = Head::from(number_of(&bytes[..4]) as u32);
     if head.edition != 1
         || head.destination != D::CODE
         || head.source != S::CODE
         || head.cost != C::CODE
     {
-        return Err(TableFault::Kind);
+        return Err(HeadFault::Kind);
     }
     let count = head.count as usize;
     if bytes.len() != 4 + count * record_size::<D, S, C>() {
-        return Err(TableFault::Length);
+        return Err(HeadFault::Length);
     }
     if count > capacity {
-        return Err(TableFault::Full);
+        return Err(HeadFault::Full);
     }
     Ok(count)
 }
@@ -149,5 +130,6 @@ pub fn check_table<D: Address, S: Address, C: Cost>(
     ensures accepted { IfOk result (λ n. (n ≡ filter_count bytes.now) × (length bytes.now ≡ table_size (kind D.Written.CODE D.Written.SIZE) (kind S.Written.CODE S.Written.SIZE) (kind C.Written.CODE C.Written.SIZE) n) × (n ≤ capacity) × (table_verdict (kind D.Written.CODE D.Written.SIZE) (kind S.Written.CODE S.Written.SIZE) (kind C.Written.CODE C.Written.SIZE) (λ _. true) capacity bytes.now ≡ Ok n)) }
 {
     let count = check_head::<D, S, C>(bytes, capacity)?;
-    check_records::<D, S, C>(bytes, count)
+    check_records::<D, S, C>(&bytes[4..])?;
+    Ok(count)
 }

@@ -1,10 +1,38 @@
 // Why a table is refused, and where; why a table is not written.
 ghost use Rattle.std.specs.Prelude.{◌≡◌};
+ghost use Rattle.tables.specs.declared.fault.LoadFault.TheVariants.{Head, Record};
 ghost use Rattle.tables.specs.declared.fault.RecordFault.TheVariants.{Filter, Pattern};
-ghost use Rattle.tables.specs.Faults.{table_number, write_number, of_record, in_head, in_record};
+ghost use Rattle.tables.specs.Faults.{head_number, record_number, table_number, refused_record, write_number};
 
 use filters::fault::FilterFault;
 use kinds::written::PatternFault;
+
+// Why a table is refused by its head and its length.
+#[derive(Clone, Copy, PartialEq, Eq, Debug)]
+pub enum HeadFault {
+    // too short for a head
+    Short,
+    // another edition or another kind
+    Kind,
+    // the length is not that of the head and its records
+    Length,
+    // more filters than there is room for
+    Full,
+}
+
+impl HeadFault {
+    // The number of the refusal.
+    pub fn number(self) -> u8
+        ensures { result ≡ head_number self }
+    {
+        match self {
+            HeadFault::Short => 15,
+            HeadFault::Kind => 16,
+            HeadFault::Length => 17,
+            HeadFault::Full => 6,
+        }
+    }
+}
 
 // Why a record is refused: by the layer that refuses it.
 #[derive(Clone, Copy, PartialEq, Eq, Debug)]
@@ -13,6 +41,18 @@ pub enum RecordFault {
     Filter(FilterFault),
     // the cost's pattern is unlawful
     Pattern(PatternFault),
+}
+
+impl RecordFault {
+    // The number of the refusal.
+    pub fn number(self) -> u8
+        ensures { result ≡ record_number self }
+    {
+        match self {
+            RecordFault::Filter(inner) => inner.number(),
+            RecordFault::Pattern(inner) => inner.number(),
+        }
+    }
 }
 
 impl From<FilterFault> for RecordFault {
@@ -31,50 +71,6 @@ impl From<PatternFault> for RecordFault {
     }
 }
 
-// Why a table is refused.
-#[derive(Clone, Copy, PartialEq, Eq, Debug)]
-pub enum TableFault {
-    // too short for a head
-    Short,
-    // another edition or another kind
-    Kind,
-    // the length is not that of the head and its records
-    Length,
-    // more filters than there is room for
-    Full,
-    // a record's filter is unlawful, or its label is in an earlier record
-    Filter(FilterFault),
-    // a record's cost is an unlawful pattern
-    Pattern(PatternFault),
-}
-
-impl From<RecordFault> for TableFault {
-    ghost from_gives = { λ e r. r ≡ of_record e };
-
-    fn from(fault: RecordFault) -> TableFault {
-        match fault {
-            RecordFault::Filter(inner) => TableFault::Filter(inner),
-            RecordFault::Pattern(inner) => TableFault::Pattern(inner),
-        }
-    }
-}
-
-impl TableFault {
-    // The number of the refusal.
-    pub fn number(self) -> u8
-        ensures { result ≡ table_number self }
-    {
-        match self {
-            TableFault::Short => 15,
-            TableFault::Kind => 16,
-            TableFault::Length => 17,
-            TableFault::Full => 6,
-            TableFault::Filter(inner) => inner.number(),
-            TableFault::Pattern(inner) => inner.number(),
-        }
-    }
-}
-
 // A refused record, counted from 1.
 #[derive(Clone, Copy, PartialEq, Eq, Debug)]
 pub struct InRecord {
@@ -82,39 +78,48 @@ pub struct InRecord {
     pub fault: RecordFault,
 }
 
-// Why a table is not loaded: the record, counted from 1, or 0 for the head; and its refusal.
+// Why a table is not loaded: by its head, or by one of its records.
 #[derive(Clone, Copy, PartialEq, Eq, Debug)]
-pub struct LoadFault {
-    pub record: u16,
-    pub fault: TableFault,
+pub enum LoadFault {
+    Head(HeadFault),
+    Record(InRecord),
 }
 
-// A fault without a record is the head's.
-impl From<TableFault> for LoadFault {
-    ghost from_gives = { λ e r. r ≡ in_head e };
+impl From<HeadFault> for LoadFault {
+    ghost from_gives = { λ e r. r ≡ Head e };
 
-    fn from(fault: TableFault) -> LoadFault {
-        LoadFault { record: 0, fault }
+    fn from(fault: HeadFault) -> LoadFault {
+        LoadFault::Head(fault)
     }
 }
 
 impl From<InRecord> for LoadFault {
-    ghost from_gives = { λ e r. r ≡ in_record e };
+    ghost from_gives = { λ e r. r ≡ Record e };
 
-    fn from(place: InRecord) -> LoadFault {
-        LoadFault {
-            record: place.record,
-            fault: TableFault::from(place.fault),
-        }
+    fn from(refused: InRecord) -> LoadFault {
+        LoadFault::Record(refused)
     }
 }
 
 impl LoadFault {
     // The number of the refusal.
     pub fn number(self) -> u8
-        ensures { result ≡ table_number self.fault }
+        ensures { result ≡ table_number self }
     {
-        self.fault.number()
+        match self {
+            LoadFault::Head(fault) => fault.number(),
+            LoadFault::Record(refused) => refused.fault.number(),
+        }
+    }
+
+    // The record that is refused, counted from 1; 0 for the head.
+    pub fn record(self) -> u16
+        ensures { result ≡ refused_record self }
+    {
+        match self {
+            LoadFault::Head(_) => 0,
+            LoadFault::Record(refused) => refused.record,
+        }
     }
 }
 

@@ -16,11 +16,11 @@ pub(crate) struct Head {
     pub(crate) count: u16,
 }
 
-impl Head {
-    // The head that a number of 32 bits holds.
-    pub(crate) fn unpack(from: u32) -> Head
-        ensures { result.edition ∷ result.destination ∷ result.source ∷ result.cost ∷ result.count ∷ [] ≡ fields head_widths from }
-    {
+// The head that a number of 32 bits holds.
+impl From<u32> for Head {
+    ghost from_gives = { λ n head. head.edition ∷ head.destination ∷ head.source ∷ head.cost ∷ head.count ∷ [] ≡ fields head_widths n };
+
+    fn from(from: u32) -> Head {
         Head {
             edition: (from >> 24) as u8,
             destination: (from >> 20 & 0xf) as u8,
@@ -29,19 +29,22 @@ impl Head {
             count: (from & 0xfff) as u16,
         }
     }
+}
 
-    // The number of 32 bits that holds the head.
-    pub(crate) fn pack(self) -> u32
-        ensures { result ≡ pack head_widths (self.edition ∷ self.destination ∷ self.source ∷ self.cost ∷ self.count ∷ []) }
-    {
-        (self.edition as u32) << 24
-            | (self.destination as u32 & 0xf) << 20
-            | (self.source as u32 & 0xf) << 16
-            | (self.cost as u32 & 0xf) << 12
-            | self.count as u32 & 0xfff
+// The number of 32 bits that holds the head.
+impl From<Head> for u32 {
+    ghost from_gives = { λ head n. n ≡ pack head_widths (head.edition ∷ head.destination ∷ head.source ∷ head.cost ∷ head.count ∷ []) };
+
+    fn from(head: Head) -> u32 {
+        (head.edition as u32) << 24
+            | (head.destination as u32 & 0xf) << 20
+            | (head.source as u32 & 0xf) << 16
+            | (head.cost as u32 & 0xf) << 12
+            | head.count as u32 & 0xfff
     }
 }
 
+// A function and no `From`, as the next one: both types are of other crates, and a type between them is no plainer.
 // The directive that a number of 32 bits holds. Fields that break the rules of their form give line 0, which is unlawful.
 pub(crate) fn unpack_directive(from: u32) -> Directive
     ensures { result ≡ directive_of from }

@@ -1,46 +1,45 @@
 // Whole numbers in bytes, the most significant first.
-ghost use Rattle.std.specs.Prelude.{◌≡◌, ℕ, ◌+◌, ◌/◌, ◌%◌, ◌^◌, ◌<◌, ◌≤◌, length, take, drop};
-ghost use Rattle.std.proofs.Math.Seq.{paste};
+ghost use Rattle.std.specs.Prelude.{◌≡◌, ℕ, ◌/◌, ◌^◌, ◌<◌, ◌≤◌, length};
 ghost use Rattle.tables.specs.Bytes.{word, spelt};
 
 use kinds::plain::Plain;
 use kinds::written::Written;
 
-// The number of the `count` bytes from `at` on.
-pub(crate) fn number_at(bytes: &[u8], at: usize, count: usize) -> u128
-    requires { (at + count ≤ length bytes.now) × (count ≤ 16) }
-    ensures value { result ≡ word (take count (drop at bytes.now)) }
-    ensures fits { result < 256 ^ count }
+// The number of the bytes.
+pub(crate) fn number_of(bytes: &[u8]) -> u128
+    requires { length bytes.now ≤ 16 }
+    ensures value { result ≡ word bytes.now }
+    ensures fits { result < 256 ^ length bytes.now }
 {
     let mut n = 0;
-    for i in 0..count {
-        n = n << 8 | bytes[at + i] as u128;
+    for byte in bytes {
+        n = n << 8 | *byte as u128;
     }
     n
 }
 
-// Writes the lowest `count` bytes of a number from `at` on.
-pub(crate) fn put_number(buffer: &mut [u8], at: usize, count: usize, n: u128)
-    requires { (at + count ≤ length buffer.old) × (count ≤ 16) }
-    ensures { buffer.new ≡ paste buffer.old at (spelt count n) count }
+// Writes the lowest bytes of a number, as many as the buffer has.
+pub(crate) fn put_number(buffer: &mut [u8], n: u128)
+    requires { length buffer.old ≤ 16 }
+    ensures { buffer.new ≡ spelt (length buffer.old) n }
 {
-    for i in 0..count {
-        buffer[at + i] = (n >> (8 * (count - 1 - i)) & 0xff) as u8;
-    }
+    let bytes = n.to_be_bytes();
+    let front = bytes.len() - buffer.len();
+    buffer.copy_from_slice(&bytes[front..]);
 }
 
-// The pattern of a kind that the bytes from `at` on are.
-pub(crate) fn pattern_at<W: Written>(bytes: &[u8], at: usize) -> W::Pattern
-    requires { at + W.Written.SIZE / 8 ≤ length bytes.now }
-    ensures { W.Written.number result ≡ word (take (W.Written.SIZE / 8) (drop at bytes.now)) }
+// The pattern of a kind that the bytes are.
+pub(crate) fn pattern_of<W: Written>(bytes: &[u8]) -> W::Pattern
+    requires { length bytes.now ≡ W.Written.SIZE / 8 }
+    ensures { W.Written.number result ≡ word bytes.now }
 {
-    W::Pattern::narrow(number_at(bytes, at, W::SIZE as usize / 8))
+    W::Pattern::narrow(number_of(bytes))
 }
 
-// Writes a pattern from `at` on.
-pub(crate) fn put_pattern<W: Written>(buffer: &mut [u8], at: usize, pattern: W::Pattern)
-    requires { at + W.Written.SIZE / 8 ≤ length buffer.old }
-    ensures { buffer.new ≡ paste buffer.old at (spelt (W.Written.SIZE / 8) (W.Written.number pattern)) (W.Written.SIZE / 8) }
+// Writes a pattern.
+pub(crate) fn put_pattern<W: Written>(buffer: &mut [u8], pattern: W::Pattern)
+    requires { length buffer.old ≡ W.Written.SIZE / 8 }
+    ensures { buffer.new ≡ spelt (W.Written.SIZE / 8) (W.Written.number pattern) }
 {
-    put_number(buffer, at, W::SIZE as usize / 8, pattern.wide());
+    put_number(buffer, pattern.wide());
 }

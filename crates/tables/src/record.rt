@@ -1,10 +1,10 @@
 // One record: reading it, and writing it.
-ghost use Rattle.std.specs.Prelude.{◌≡◌, ℕ, ◌+◌, ◌/◌, ◌≤◌, length, drop};
-ghost use Rattle.std.proofs.Math.Seq.{paste};
+ghost use Rattle.std.specs.Prelude.{◌≡◌, ℕ, ◌+◌, ◌/◌, ◌≤◌, length, take};
+ghost use Rattle.tables.specs.Bytes.{word};
 ghost use Rattle.tables.specs.Format.{kind, entry_of, record_size, decode_record, encode_record};
 
 use crate::field::{pack_directive, unpack_directive};
-use crate::number::{number_at, pattern_at, put_number, put_pattern};
+use crate::number::{number_of, pattern_of, put_number, put_pattern};
 use filters::filter::{Filter, Prefix, Record};
 use kinds::address::Address;
 use kinds::cost::Cost;
@@ -26,54 +26,61 @@ pub(crate) fn record_size<D: Address, S: Address, C: Cost>() -> usize
     8 + bytes_of::<D>() + bytes_of::<S>() + bytes_of::<C>()
 }
 
-// The record that begins at `at`.
-pub(crate) fn record_at<D: Address, S: Address, C: Cost>(
-    bytes: &[u8],
-    at: usize,
-) -> Record<D, S, C>
-    requires { at + record_size (kind D.Written.CODE D.Written.SIZE) (kind S.Written.CODE S.Written.SIZE) (kind C.Written.CODE C.Written.SIZE) ≤ length bytes.now }
-    ensures { entry_of D.Written.number S.Written.number C.Written.number result ≡ decode_record (kind D.Written.CODE D.Written.SIZE) (kind S.Written.CODE S.Written.SIZE) (kind C.Written.CODE C.Written.SIZE) (drop at bytes.now) }
+// The label of the record that the bytes begin with.
+pub(crate) fn label_of(record: &[u8]) -> u16
+    requires { 2 ≤ length record.now }
+    ensures { result ≡ word (take 2 record.now) }
 {
-    let source = at + 3 + bytes_of::<D>();
-    let cost = source + 1 + bytes_of::<S>();
-    let directive = cost + bytes_of::<C>();
+    number_of(&record[..2]) as u16
+}
+
+// The record that the bytes are.
+pub(crate) fn read_record<D: Address, S: Address, C: Cost>(
+    record: &[u8],
+) -> Record<D, S, C>
+    requires { length record.now ≡ record_size (kind D.Written.CODE D.Written.SIZE) (kind S.Written.CODE S.Written.SIZE) (kind C.Written.CODE C.Written.SIZE) }
+    ensures { entry_of D.Written.number S.Written.number C.Written.number result ≡ decode_record (kind D.Written.CODE D.Written.SIZE) (kind S.Written.CODE S.Written.SIZE) (kind C.Written.CODE C.Written.SIZE) record.now }
+{
+    let (label, rest) = record.split_at(2);
+    let (destination_length, rest) = rest.split_at(1);
+    let (destination, rest) = rest.split_at(bytes_of::<D>());
+    let (source_length, rest) = rest.split_at(1);
+    let (source, rest) = rest.split_at(bytes_of::<S>());
+    let (cost, directive) = rest.split_at(bytes_of::<C>());
     Filter {
-        label: number_at(bytes, at, 2) as u16,
+        label: number_of(label) as u16,
         destination: Prefix {
-            length: number_at(bytes, at + 2, 1) as u8,
-            address: pattern_at::<D>(bytes, at + 3),
+            length: number_of(destination_length) as u8,
+            address: pattern_of::<D>(destination),
         },
         source: Prefix {
-            length: number_at(bytes, source, 1) as u8,
-            address: pattern_at::<S>(bytes, source + 1),
+            length: number_of(source_length) as u8,
+            address: pattern_of::<S>(source),
         },
-        cost: pattern_at::<C>(bytes, cost),
-        directive: unpack_directive(number_at(bytes, directive, 4) as u32),
+        cost: pattern_of::<C>(cost),
+        directive: unpack_directive(number_of(directive) as u32),
     }
 }
 
-// Writes a record from `at` on.
+// Writes a record into its bytes.
 pub(crate) fn put_record<D: Address, S: Address, C: Cost>(
-    buffer: &mut [u8],
-    at: usize,
+    record: &mut [u8],
     place: &Record<D, S, C>,
 )
-    requires { at + record_size (kind D.Written.CODE D.Written.SIZE) (kind S.Written.CODE S.Written.SIZE) (kind C.Written.CODE C.Written.SIZE) ≤ length buffer.old }
-    ensures { buffer.new ≡ paste buffer.old at (encode_record (kind D.Written.CODE D.Written.SIZE) (kind S.Written.CODE S.Written.SIZE) (kind C.Written.CODE C.Written.SIZE) (entry_of D.Written.number S.Written.number C.Written.number place.now)) (record_size (kind D.Written.CODE D.Written.SIZE) (kind S.Written.CODE S.Written.SIZE) (kind C.Written.CODE C.Written.SIZE)) }
+    requires { length record.old ≡ record_size (kind D.Written.CODE D.Written.SIZE) (kind S.Written.CODE S.Written.SIZE) (kind C.Written.CODE C.Written.SIZE) }
+    ensures { record.new ≡ encode_record (kind D.Written.CODE D.Written.SIZE) (kind S.Written.CODE S.Written.SIZE) (kind C.Written.CODE C.Written.SIZE) (entry_of D.Written.number S.Written.number C.Written.number place.now) }
 {
-    let source = at + 3 + bytes_of::<D>();
-    let cost = source + 1 + bytes_of::<S>();
-    let directive = cost + bytes_of::<C>();
-    put_number(buffer, at, 2, place.label as u128);
-    put_number(buffer, at + 2, 1, place.destination.length as u128);
-    put_pattern::<D>(buffer, at + 3, place.destination.address);
-    put_number(buffer, source, 1, place.source.length as u128);
-    put_pattern::<S>(buffer, source + 1, place.source.address);
-    put_pattern::<C>(buffer, cost, place.cost);
-    put_number(
-        buffer,
-        directive,
-        4,
-        pack_directive(place.directive) as u128,
-    );
+    let (label, rest) = record.split_at_mut(2);
+    let (destination_length, rest) = rest.split_at_mut(1);
+    let (destination, rest) = rest.split_at_mut(bytes_of::<D>());
+    let (source_length, rest) = rest.split_at_mut(1);
+    let (source, rest) = rest.split_at_mut(bytes_of::<S>());
+    let (cost, directive) = rest.split_at_mut(bytes_of::<C>());
+    put_number(label, place.label as u128);
+    put_number(destination_length, place.destination.length as u128);
+    put_pattern::<D>(destination, place.destination.address);
+    put_number(source_length, place.source.length as u128);
+    put_pattern::<S>(source, place.source.address);
+    put_pattern::<C>(cost, place.cost);
+    put_number(directive, pack_directive(place.directive) as u128);
 }

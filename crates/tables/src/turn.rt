@@ -1,5 +1,5 @@
 // Loading and writing one after the other: what was written is loaded again, and what was loaded is written again.
-ghost use Rattle.std.specs.Prelude.{◌≡◌, ℕ, ◌≤◌, Bool, List, map, length, take};
+ghost use Rattle.std.specs.Prelude.{◌≡◌, ℕ, ◌≤◌, Bool, List, map, length};
 ghost use Rattle.tables.specs.declared.turn.TurnFault.TheVariants.{Load, Write};
 ghost use Rattle.filters.specs.declared.filter.Filter.{Filter};
 ghost use Rattle.filters.specs.Meaning.{record_of};
@@ -18,7 +18,7 @@ use kinds::address::Address;
 use kinds::cost::Cost;
 
 // Why a table is not turned around.
-#[derive(Clone, Copy)]
+#[derive(Clone, Copy, PartialEq, Eq, Debug)]
 pub enum TurnFault {
     // it is not loaded
     Load(LoadFault),
@@ -42,14 +42,6 @@ impl From<WriteFault> for TurnFault {
     }
 }
 
-// The first places.
-fn front<R: Copy>(places: &[R], count: usize) -> &[R]
-    requires { count ≤ length places.now }
-    ensures { result.now ≡ take count places.now }
-{
-    &places[0..count]
-}
-
 // Loads a table into places and writes it again: the buffer then begins with the same bytes.
 pub fn load_and_write<D: Address, S: Address, C: Cost>(
     bytes: &[u8],
@@ -61,7 +53,7 @@ pub fn load_and_write<D: Address, S: Address, C: Cost>(
     ensures same { Rewritten bytes.now buffer.old buffer.new result }
 {
     let count = load_table::<D, S, C>(bytes, places)?;
-    let length = write_table::<D, S, C>(front(places, count), buffer)?;
+    let length = write_table::<D, S, C>(&places[..count], buffer)?;
     Ok(length)
 }
 
@@ -78,6 +70,6 @@ pub fn write_and_load<D: Address, S: Address, C: Cost>(
 {
     reads_back::<D, S, C>();
     let length = write_table::<D, S, C>(places, buffer)?;
-    let count = load_table::<D, S, C>(&buffer[0..length], into)?;
+    let count = load_table::<D, S, C>(&buffer[..length], into)?;
     Ok(count)
 }

@@ -1,7 +1,6 @@
 // Writing a table.
-ghost use Rattle.std.specs.Prelude.{◌≡◌, ℕ, ◌*◌, ◌≤◌, map, length};
-ghost use Rattle.std.proofs.Math.Seq.{paste};
-ghost use Rattle.tables.specs.Format.{kind, entry_of, table_size, record_size, encode, encode_head, encode_records};
+ghost use Rattle.std.specs.Prelude.{◌≡◌, ℕ, ◌*◌, ◌≤◌, ◌++◌, map, length, drop};
+ghost use Rattle.tables.specs.Format.{kind, entry_of, record_size, encode, encode_head, encode_records};
 ghost use Rattle.tables.specs.Memory.{write_verdict, written};
 
 use crate::fault::WriteFault;
@@ -15,8 +14,8 @@ use kinds::written::Written;
 
 // Writes the head of a table of `count` filters.
 fn put_head<D: Address, S: Address, C: Cost>(buffer: &mut [u8], count: u16)
-    requires { 4 ≤ length buffer.old }
-    ensures { buffer.new ≡ paste buffer.old 0 (encode_head (kind D.Written.CODE D.Written.SIZE) (kind S.Written.CODE S.Written.SIZE) (kind C.Written.CODE C.Written.SIZE) count) 4 }
+    requires { length buffer.old ≡ 4 }
+    ensures { buffer.new ≡ encode_head (kind D.Written.CODE D.Written.SIZE) (kind S.Written.CODE S.Written.SIZE) (kind C.Written.CODE C.Written.SIZE) count }
 {
     let head = Head {
         edition: 1,
@@ -25,21 +24,21 @@ fn put_head<D: Address, S: Address, C: Cost>(buffer: &mut [u8], count: u16)
         cost: C::CODE,
         count,
     };
-    put_number(buffer, 0, 4, head.pack() as u128);
+    put_number(buffer, u32::from(head) as u128);
 }
 
-// Writes the records of places behind the head.
+// Writes the records of places, one behind the other; later bytes stay.
 fn put_records<D: Address, S: Address, C: Cost>(
     places: &[Record<D, S, C>],
-    buffer: &mut [u8],
+    records: &mut [u8],
 )
-    requires { (table_size (kind D.Written.CODE D.Written.SIZE) (kind S.Written.CODE S.Written.SIZE) (kind C.Written.CODE C.Written.SIZE) (length places.now) ≤ length buffer.old) × (length places.now ≤ 4095) }
-    ensures { buffer.new ≡ paste buffer.old 4 (encode_records (kind D.Written.CODE D.Written.SIZE) (kind S.Written.CODE S.Written.SIZE) (kind C.Written.CODE C.Written.SIZE) (map (entry_of D.Written.number S.Written.number C.Written.number) places.now)) (length places.now * record_size (kind D.Written.CODE D.Written.SIZE) (kind S.Written.CODE S.Written.SIZE) (kind C.Written.CODE C.Written.SIZE)) }
+    requires { length places.now * record_size (kind D.Written.CODE D.Written.SIZE) (kind S.Written.CODE S.Written.SIZE) (kind C.Written.CODE C.Written.SIZE) ≤ length records.old }
+    ensures { records.new ≡ encode_records (kind D.Written.CODE D.Written.SIZE) (kind S.Written.CODE S.Written.SIZE) (kind C.Written.CODE C.Written.SIZE) (map (entry_of D.Written.number S.Written.number C.Written.number) places.now) ++ drop (length places.now * record_size (kind D.Written.CODE D.Written.SIZE) (kind S.Written.CODE S.Written.SIZE) (kind C.Written.CODE C.Written.SIZE)) records.old }
 {
     let size = record_size::<D, S, C>();
-    for i in 0..places.len() {
-        let place = places[i];
-        put_record::<D, S, C>(buffer, 4 + i * size, &place);
+    // A range by `i` and no `zip`: of bytes lent to a `chunks_exact_mut` the loop's proof has no name, and it does not close.
+    for (i, place) in places.iter().enumerate() {
+        put_record::<D, S, C>(&mut records[i * size..(i + 1) * size], place);
     }
 }
 
@@ -60,7 +59,8 @@ pub fn write_table<D: Address, S: Address, C: Cost>(
     if buffer.len() < needed {
         return Err(WriteFault::Short);
     }
-    put_head::<D, S, C>(buffer, count as u16);
-    put_records::<D, S, C>(places, buffer);
+    let (head, records) = buffer.split_at_mut(4);
+    put_head::<D, S, C>(head, count as u16);
+    put_records::<D, S, C>(places, records);
     Ok(needed)
 }

@@ -1,42 +1,78 @@
-use Rattle.std.proofs.Common.{◌≡◌, ℕ, ◌+◌, true, [], drop, IfOk, Ok, Err, Result, sym, refl, ap, ◌∙◌, subst, arith}
+use Rattle.std.proofs.Common.{ℕ, ◌+◌, ◌*◌, true, List, length, Ok, Err, sym, refl, ap, ◌∙◌, arith, rules}
 use Rattle.std.proofs.lemmas.Result.{err_from_is_err_and}
-use Rattle.tables.specs.declared.fault.LoadFault.{LoadFault}
-use Rattle.tables.specs.Format.{kind, decode_records}
-use Rattle.tables.specs.Verdict.{entries_verdict}
-use Rattle.tables.proofs.Walk.{next_fits, onward_ok, onward_passed, onward_err, records_more, records_all}
+use Rattle.std.proofs.lemmas.List.{length-take-le}
+use Rattle.tables.specs.Format.{kind, Entry, entries, entry_of}
+use Rattle.tables.specs.Verdict.{has, labels, behind_records}
+use Rattle.tables.proofs.Chunks.{turned, ended, inside, before}
+use Rattle.tables.proofs.Walk.{counted_passed, onward_ok, onward_passed, onward_err, one_more, entries_all}
 use Rattle.tables.proofs.check.check_records.Goals as goal
 
-pub check_at-requires : goal.check_at-requires
-check_at-requires g c = (next_fits (kind g.D.Written.CODE g.D.Written.SIZE) (kind g.S.Written.CODE g.S.Written.SIZE) (kind g.C.Written.CODE g.C.Written.SIZE) c.loop-i.i c.args.count _ c.loop-i-test.true c.requires.0, omega arith)
+pub slice_bounds-is_label_in-end : goal.slice_bounds-is_label_in-end
+slice_bounds-is_label_in-end g c =
+    let D = kind g.D.Written.CODE g.D.Written.SIZE in
+    let S = kind g.S.Written.CODE g.S.Written.SIZE in
+    let C = kind g.C.Written.CODE g.C.Written.SIZE in
+    let t = turned D S C c.args.records.now c.loop-i.i-iterator c.next.new.self _ _ c.loop-i.invariant.1 c.in-Some.is c.next.ensures.steps in
+    sym (length-take-le _ c.args.records.now (omega (arith, inside D S C c.args.records.now c.in-Some.i t.1.below, ap (λ (k : ℕ). c.in-Some.i * k) c.record_size-size.ensures.size)))
 
-pub loop-i-init : goal.loop-i-init
-loop-i-init g c = (λ pass tells. refl, refl)
+pub in_record-requires : goal.in_record-requires
+in_record-requires g c =
+    let D = kind g.D.Written.CODE g.D.Written.SIZE in
+    let S = kind g.S.Written.CODE g.S.Written.SIZE in
+    let C = kind g.C.Written.CODE g.C.Written.SIZE in
+    let t = turned D S C c.args.records.now c.loop-i.i-iterator c.next.new.self _ _ c.loop-i.invariant.1 c.in-Some.is c.next.ensures.steps in
+    omega (arith, t.1.below, c.requires)
 
 pub loop-i-preserved : goal.loop-i-preserved
-loop-i-preserved g c = (
-  λ pass tells.
-      sym (records_more (kind g.D.Written.CODE g.D.Written.SIZE) (kind g.S.Written.CODE g.S.Written.SIZE) (kind g.C.Written.CODE g.C.Written.SIZE) pass c.args.bytes.now c.args.count c.loop-i.i c.loop-i-test.true ∙ onward_ok _ _ _ _ _ (c.in_ok-check_at.ensures.answer pass tells))
-      ∙ c.loop-i.invariant.0 pass tells,
-  sym (records_more (kind g.D.Written.CODE g.D.Written.SIZE) (kind g.S.Written.CODE g.S.Written.SIZE) (kind g.C.Written.CODE g.C.Written.SIZE) (λ _. true) c.args.bytes.now c.args.count c.loop-i.i c.loop-i-test.true ∙ onward_passed _ _ _ c.in_ok-check_at.ensures.passed)
-      ∙ c.loop-i.invariant.1,
-)
+loop-i-preserved g c =
+    let D = kind g.D.Written.CODE g.D.Written.SIZE in
+    let S = kind g.S.Written.CODE g.S.Written.SIZE in
+    let C = kind g.C.Written.CODE g.C.Written.SIZE in
+    let es = entries D S C c.args.records.now in
+    let r = entry_of g.D.Written.number g.S.Written.number g.C.Written.number c.read_record-place.result in
+    let t = turned D S C c.args.records.now c.loop-i.i-iterator c.next.new.self _ _ c.loop-i.invariant.1 c.in-Some.is c.next.ensures.steps in
+    let used = c.is_label_in-used.ensures ∙ ap (λ (rs : List Entry). has r.label (labels rs)) (before D S C c.args.records.now c.in-Some.i c.record_size-size.result c.record_size-size.ensures.size t.1.below) in (
+      search rules,
+      t.1.then,
+      λ pass tells.
+          sym
+          (one_more D S C pass es _ c.in-Some.i _ r _ c.is_label_in-used.result c.check_record.result t.0 t.1.count t.1.below t.1.here c.read_record-place.ensures used (c.check_record.ensures.answer pass tells)
+          ∙ onward_ok _ _ _ _ _ c.in_ok-in_record.ensures)
+          ∙ c.loop-i.invariant.2 pass tells,
+      sym
+          (one_more D S C (λ _. true) es _ c.in-Some.i _ r _ c.is_label_in-used.result _ t.0 t.1.count t.1.below t.1.here c.read_record-place.ensures used refl
+          ∙ onward_passed _ _ _ (counted_passed (c.in-Some.i + 1) c.check_record.result _ _ _ c.in_ok-in_record.ensures refl c.check_record.ensures.passed))
+          ∙ c.loop-i.invariant.3,
+    )
 
-pub returns-in_err-check_at : goal.returns-in_err-check_at
-returns-in_err-check_at g c =
+pub returns-in_err-in_record-clause-answer : goal.returns-in_err-in_record-clause-answer
+returns-in_err-in_record-clause-answer g c =
+    let D = kind g.D.Written.CODE g.D.Written.SIZE in
+    let S = kind g.S.Written.CODE g.S.Written.SIZE in
+    let C = kind g.C.Written.CODE g.C.Written.SIZE in
+    let es = entries D S C c.args.records.now in
+    let r = entry_of g.D.Written.number g.S.Written.number g.C.Written.number c.read_record-place.result in
+    let t = turned D S C c.args.records.now c.loop-i.i-iterator c.next.new.self _ _ c.loop-i.invariant.1 c.in-Some.is c.next.ensures.steps in
+    let used = c.is_label_in-used.ensures ∙ ap (λ (rs : List Entry). has r.label (labels rs)) (before D S C c.args.records.now c.in-Some.i c.record_size-size.result c.record_size-size.ensures.size t.1.below) in
     let p = err_from_is_err_and c.from_residual.result c.from_residual.ensures.1 in
-    record {
-      answer = λ pass tells.
-          p.1 ∙ ap Err p.2
-          ∙ onward_err (c.loop-i.i + 1) _ _ _ (c.in_err-check_at.ensures.answer pass tells)
-          ∙ sym (records_more (kind g.D.Written.CODE g.D.Written.SIZE) (kind g.S.Written.CODE g.S.Written.SIZE) (kind g.C.Written.CODE g.C.Written.SIZE) pass c.args.bytes.now c.args.count c.loop-i.i c.loop-i-test.true)
-          ∙ c.loop-i.invariant.0 pass tells;
-      passed = subst (λ (r : Result ℕ LoadFault). IfOk r (λ n. (n ≡ c.args.count) × (entries_verdict (kind g.D.Written.CODE g.D.Written.SIZE) (kind g.S.Written.CODE g.S.Written.SIZE) (kind g.C.Written.CODE g.C.Written.SIZE) (λ _. true) [] (decode_records (kind g.D.Written.CODE g.D.Written.SIZE) (kind g.S.Written.CODE g.S.Written.SIZE) (kind g.C.Written.CODE g.C.Written.SIZE) c.args.count (drop 4 c.args.bytes.now)) ≡ Ok c.args.count))) (sym p.1) tt;
-    }
+    λ pass tells.
+    ap (behind_records (length es)) (p.1 ∙ ap Err p.2)
+    ∙ onward_err (c.in-Some.i + 1) _ _ _ c.in_err-in_record.ensures
+    ∙ sym (one_more D S C pass es _ c.in-Some.i _ r _ c.is_label_in-used.result c.check_record.result t.0 t.1.count t.1.below t.1.here c.read_record-place.ensures used (c.check_record.ensures.answer pass tells))
+    ∙ c.loop-i.invariant.2 pass tells
 
-pub returns : goal.returns
-returns g c =
-    let e : c.loop-i.i ≡ c.args.count = omega arith in
-    record {
-      answer = λ pass tells. sym (records_all (kind g.D.Written.CODE g.D.Written.SIZE) (kind g.S.Written.CODE g.S.Written.SIZE) (kind g.C.Written.CODE g.C.Written.SIZE) pass c.args.bytes.now c.args.count c.loop-i.i e) ∙ c.loop-i.invariant.0 pass tells;
-      passed = (refl, sym c.loop-i.invariant.1 ∙ records_all (kind g.D.Written.CODE g.D.Written.SIZE) (kind g.S.Written.CODE g.S.Written.SIZE) (kind g.C.Written.CODE g.C.Written.SIZE) (λ _. true) c.args.bytes.now c.args.count c.loop-i.i e);
-    }
+pub returns-clause-answer : goal.returns-clause-answer
+returns-clause-answer g c =
+    let D = kind g.D.Written.CODE g.D.Written.SIZE in
+    let S = kind g.S.Written.CODE g.S.Written.SIZE in
+    let C = kind g.C.Written.CODE g.C.Written.SIZE in
+    let e = ended D S C c.args.records.now c.loop-i.i-iterator c.next.new.self _ c.loop-i.invariant.1 c.in-None.is c.next.ensures.steps in
+    λ pass tells. ap Ok (sym e) ∙ sym (entries_all D S C pass (entries D S C c.args.records.now) _ e) ∙ c.loop-i.invariant.2 pass tells
+
+pub returns-clause-passed : goal.returns-clause-passed
+returns-clause-passed g c =
+    let D = kind g.D.Written.CODE g.D.Written.SIZE in
+    let S = kind g.S.Written.CODE g.S.Written.SIZE in
+    let C = kind g.C.Written.CODE g.C.Written.SIZE in
+    let e = ended D S C c.args.records.now c.loop-i.i-iterator c.next.new.self _ c.loop-i.invariant.1 c.in-None.is c.next.ensures.steps in
+    sym c.loop-i.invariant.3 ∙ entries_all D S C (λ _. true) (entries D S C c.args.records.now) _ e ∙ ap Ok e

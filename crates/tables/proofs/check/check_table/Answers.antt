@@ -1,17 +1,57 @@
-use Rattle.std.proofs.Common.{true, Ok, sym, ap, ◌∙◌, arith}
-use Rattle.std.proofs.lemmas.Result.{MatchResult-weaker}
-use Rattle.tables.specs.Format.{kind, table_size}
-use Rattle.tables.proofs.Heads.{head_ok, behind_ok}
+use Rattle.std.proofs.Common.{true, [], List, length, drop, Ok, Err, sym, ap, ◌∙◌, arith}
+use Rattle.std.proofs.lemmas.Result.{err_from_is_err_and}
+use Rattle.tables.specs.Format.{kind, Entry}
+use Rattle.tables.specs.Verdict.{entries_verdict}
+use Rattle.tables.proofs.Chunks.{table_entries}
+use Rattle.tables.proofs.Heads.{head_ok, behind_ok, count_small}
+use Rattle.tables.proofs.Tables.{length_records}
 use Rattle.tables.proofs.check.check_table.Goals as goal
+
+pub check_records-requires : goal.check_records-requires
+check_records-requires g c =
+    let D = kind g.D.Written.CODE g.D.Written.SIZE in
+    let S = kind g.S.Written.CODE g.S.Written.SIZE in
+    let C = kind g.C.Written.CODE g.C.Written.SIZE in
+    let n = c.in_ok-count.count in
+    let k = head_ok D S C c.args.capacity c.args.bytes.now n c.in_ok-count.ensures in
+    omega (arith, ap length (table_entries D S C c.args.bytes.now n k.1), length_records D S C n (drop 4 c.args.bytes.now), k.3, count_small c.args.bytes.now)
+
+pub returns-in_err-check_records-clause-answer : goal.returns-in_err-check_records-clause-answer
+returns-in_err-check_records-clause-answer g c =
+    let D = kind g.D.Written.CODE g.D.Written.SIZE in
+    let S = kind g.S.Written.CODE g.S.Written.SIZE in
+    let C = kind g.C.Written.CODE g.C.Written.SIZE in
+    let n = c.in_ok-count.count in
+    let k = head_ok D S C c.args.capacity c.args.bytes.now n c.in_ok-count.ensures in
+    let p = err_from_is_err_and c.from_residual-in_err-check_records.result c.from_residual-in_err-check_records.ensures.1 in
+    λ pass tells.
+    p.1 ∙ ap Err p.2
+    ∙ c.in_err-check_records.ensures.answer pass tells
+    ∙ ap (λ (rs : List Entry). entries_verdict D S C pass [] rs) (table_entries D S C c.args.bytes.now n k.1)
+    ∙ sym (behind_ok D S C pass c.args.capacity c.args.bytes.now n c.in_ok-count.ensures)
 
 pub returns : goal.returns
 returns g c =
-    let h = c.in_ok-count.ensures in
-    let k = head_ok (kind g.D.Written.CODE g.D.Written.SIZE) (kind g.S.Written.CODE g.S.Written.SIZE) (kind g.C.Written.CODE g.C.Written.SIZE) c.args.capacity c.args.bytes.now c.in_ok-count.count h in
+    let D = kind g.D.Written.CODE g.D.Written.SIZE in
+    let S = kind g.S.Written.CODE g.S.Written.SIZE in
+    let C = kind g.C.Written.CODE g.C.Written.SIZE in
+    let n = c.in_ok-count.count in
+    let k = head_ok D S C c.args.capacity c.args.bytes.now n c.in_ok-count.ensures in
+    let e = table_entries D S C c.args.bytes.now n k.1 in
+    let l = ap length e ∙ length_records D S C n (drop 4 c.args.bytes.now) in
     record {
-      answer = λ pass tells. c.check_records.ensures.answer pass tells ∙ sym (behind_ok (kind g.D.Written.CODE g.D.Written.SIZE) (kind g.S.Written.CODE g.S.Written.SIZE) (kind g.C.Written.CODE g.C.Written.SIZE) pass c.args.capacity c.args.bytes.now c.in_ok-count.count h);
-      accepted =
-          MatchResult-weaker c.check_records.result c.check_records.ensures.passed
-          (λ n e. (e.0 ∙ k.3, k.1 ∙ ap (table_size (kind g.D.Written.CODE g.D.Written.SIZE) (kind g.S.Written.CODE g.S.Written.SIZE) (kind g.C.Written.CODE g.C.Written.SIZE)) (sym e.0), omega (arith, k.2, e.0), behind_ok (kind g.D.Written.CODE g.D.Written.SIZE) (kind g.S.Written.CODE g.S.Written.SIZE) (kind g.C.Written.CODE g.C.Written.SIZE) (λ _. true) c.args.capacity c.args.bytes.now c.in_ok-count.count h ∙ e.1 ∙ ap Ok (sym e.0)))
-          (λ y u. tt);
+      answer = λ pass tells.
+          ap Ok (sym l)
+          ∙ c.in_ok-check_records.ensures.answer pass tells
+          ∙ ap (λ (rs : List Entry). entries_verdict D S C pass [] rs) e
+          ∙ sym (behind_ok D S C pass c.args.capacity c.args.bytes.now n c.in_ok-count.ensures);
+      accepted = (
+        k.3,
+        k.1,
+        k.2,
+        behind_ok D S C (λ _. true) c.args.capacity c.args.bytes.now n c.in_ok-count.ensures
+            ∙ ap (λ (rs : List Entry). entries_verdict D S C (λ _. true) [] rs) (sym e)
+            ∙ c.in_ok-check_records.ensures.passed
+            ∙ ap Ok l,
+      );
     }

@@ -1,10 +1,7 @@
 use Rattle.std.proofs.Common.{sym, ap, ◌∙◌, arith}
 use Rattle.tables.specs.Directives.{directive_number}
-use Rattle.tables.proofs.Fields.{pack_two, pack_three}
+use Rattle.tables.proofs.Fields.{pack_three}
 use Rattle.tables.proofs.field.pack_directive.Goals as goal
-
-pub returns-in-Line : goal.returns-in-Line
-returns-in-Line c = pack_two 1 c.in-Line.line (omega arith) ∙ omega arith ∙ ap directive_number (sym c.in-Line.is)
 
 pub returns-in-Reserve : goal.returns-in-Reserve
 returns-in-Reserve c = pack_three 2 c.in-Reserve.line c.in-Reserve.rate (omega arith) ∙ omega arith ∙ ap directive_number (sym c.in-Reserve.is)

@@ -1,23 +1,46 @@
-use Rattle.std.proofs.Common.{◌≡◌, ℕ, ◌+◌, List, map, take, drop, sym, subst, arith}
-use Rattle.filters.specs.Meaning.{Record}
-use Rattle.tables.specs.Format.{kind, entry_of, decode_records}
+use Rattle.std.proofs.Common.{ℕ, length, map, take, drop, sym, refl, ap, ◌∙◌, arith, rules}
+use borrow.Author.Rules.{scaled_Fits}
+use Rattle.std.proofs.lemmas.List.{take_all}
+use Rattle.tables.specs.Format.{kind, entries, entry_of}
+use Rattle.tables.proofs.Chunks.{turned, ended}
 use Rattle.tables.proofs.Places.{load_more}
-use Rattle.tables.proofs.Walk.{record_fits}
 use Rattle.tables.proofs.load.read_records.Goals as goal
 
-pub record_at-requires : goal.record_at-requires
-record_at-requires g c = record_fits (kind g.D.Written.CODE g.D.Written.SIZE) (kind g.S.Written.CODE g.S.Written.SIZE) (kind g.C.Written.CODE g.C.Written.SIZE) c.loop-i.i c.args.count c.record_size-size.result _ c.loop-i-test.true c.record_size-size.ensures.size c.requires.0
+pub bounds-places-i : goal.bounds-places-i
+bounds-places-i g c =
+    let D = kind g.D.Written.CODE g.D.Written.SIZE in
+    let S = kind g.S.Written.CODE g.S.Written.SIZE in
+    let C = kind g.C.Written.CODE g.C.Written.SIZE in
+    let t = turned D S C c.args.records.now c.loop-i.i-iterator c.next.new.self _ _ c.loop-i.invariant.1 c.in-Some.is c.next.ensures.steps in
+    omega (arith, t.1.below, c.requires, c.loop-i.auto.places)
+
+pub offset_bounds-places-i : goal.offset_bounds-places-i
+offset_bounds-places-i g c =
+    let D = kind g.D.Written.CODE g.D.Written.SIZE in
+    let S = kind g.S.Written.CODE g.S.Written.SIZE in
+    let C = kind g.C.Written.CODE g.C.Written.SIZE in
+    let t = turned D S C c.args.records.now c.loop-i.i-iterator c.next.new.self _ _ c.loop-i.invariant.1 c.in-Some.is c.next.ensures.steps in
+    let l = c.loop-i in
+    scaled_Fits c.in-Some.i (length c.loop-i.places) _ (omega (arith, t.1.below, c.requires, c.loop-i.auto.places)) (search rules)
 
 pub loop-i-preserved : goal.loop-i-preserved
 loop-i-preserved g c =
-    let entry = entry_of g.D.Written.number g.S.Written.number g.C.Written.number in
-    subst (λ (ps : List (Record g.row.D-Pattern.Denot g.row.S-Pattern.Denot g.row.C-Pattern.Denot)). (map entry (take (c.loop-i.i + 1) ps) ≡ decode_records (kind g.D.Written.CODE g.D.Written.SIZE) (kind g.S.Written.CODE g.S.Written.SIZE) (kind g.C.Written.CODE g.C.Written.SIZE) (c.loop-i.i + 1) (drop 4 c.args.bytes.now)) × (drop (c.loop-i.i + 1) ps ≡ drop (c.loop-i.i + 1) c.args.places.now)) (sym c.put_place.ensures)
-    (load_more (kind g.D.Written.CODE g.D.Written.SIZE) (kind g.S.Written.CODE g.S.Written.SIZE) (kind g.C.Written.CODE g.C.Written.SIZE) entry c.args.bytes.now c.record_size-size.result c.loop-i.i c.args.places.now c.loop-i.places c.record_at.result (omega (arith, c.requires, c.loop-i-test.true, c.loop-i.auto.places)) c.record_size-size.ensures.size c.loop-i.invariant.0 c.loop-i.invariant.1 c.record_at.ensures)
+    let D = kind g.D.Written.CODE g.D.Written.SIZE in
+    let S = kind g.S.Written.CODE g.S.Written.SIZE in
+    let C = kind g.C.Written.CODE g.C.Written.SIZE in
+    let es = entries D S C c.args.records.now in
+    let t = turned D S C c.args.records.now c.loop-i.i-iterator c.next.new.self _ _ c.loop-i.invariant.1 c.in-Some.is c.next.ensures.steps in
+    let m = load_more (entry_of g.D.Written.number g.S.Written.number g.C.Written.number) es _ c.in-Some.i _ c.args.places.now c.loop-i.places _ c.read_record.result _ t.0 t.1.count (omega (arith, t.1.below, c.requires, c.loop-i.auto.places)) t.1.below refl c.read_record.ensures t.1.here c.loop-i.invariant.2 c.loop-i.invariant.3 in
+    (search rules, t.1.then, m.0, m.1)
 
 pub returns : goal.returns
 returns g c =
-    let e : c.loop-i.i ≡ c.args.count = omega arith in
+    let D = kind g.D.Written.CODE g.D.Written.SIZE in
+    let S = kind g.S.Written.CODE g.S.Written.SIZE in
+    let C = kind g.C.Written.CODE g.C.Written.SIZE in
+    let es = entries D S C c.args.records.now in
+    let e = ended D S C c.args.records.now c.loop-i.i-iterator c.next.new.self _ c.loop-i.invariant.1 c.in-None.is c.next.ensures.steps in
     record {
-      read = subst (λ (n : ℕ). map (entry_of g.D.Written.number g.S.Written.number g.C.Written.number) (take n c.loop-i.places) ≡ decode_records (kind g.D.Written.CODE g.D.Written.SIZE) (kind g.S.Written.CODE g.S.Written.SIZE) (kind g.C.Written.CODE g.C.Written.SIZE) n (drop 4 c.args.bytes.now)) e c.loop-i.invariant.0;
-      kept = subst (λ (n : ℕ). drop n c.loop-i.places ≡ drop n c.args.places.now) e c.loop-i.invariant.1;
+      read = ap (λ (n : ℕ). map (entry_of g.D.Written.number g.S.Written.number g.C.Written.number) (take n c.loop-i.places)) (sym e) ∙ c.loop-i.invariant.2 ∙ take_all _ es (omega (arith, e));
+      kept = ap (λ (n : ℕ). drop n c.loop-i.places) (sym e) ∙ c.loop-i.invariant.3 ∙ ap (λ (n : ℕ). drop n c.args.places.now) e;
     }

@@ -2,7 +2,7 @@ use Rattle.std.proofs.Common.{◌≡◌, ℕ, eqb, length, take, set, sym, refl,
 use Rattle.filters.specs.Meaning.{Record}
 use Rattle.filters.specs.Refusals.{body_verdict, filter_verdict}
 use Rattle.tables.specs.Verdict.{has}
-use Rattle.book.specs.Labels.{labels}
+use Rattle.tables.specs.Verdict.{labels}
 use Rattle.book.specs.Books.{capacity_of}
 use Rattle.book.proofs.Adding.{accepted, still_apart, full, room}
 use Rattle.book.proofs.Means.{rules_added}

@@ -1,11 +1,14 @@
-use Rattle.std.proofs.Common.{take, sym, ap, ◌∙◌, arith}
-use Rattle.book.specs.Labels.{labels}
+use Rattle.std.proofs.Common.{take, is_some, sym, ap, ◌∙◌, arith}
 use Rattle.book.specs.Books.{withdraw_verdict}
-use Rattle.book.proofs.Found.{has_at}
+use Rattle.book.proofs.Found.{has_position}
 use Rattle.book.proofs.Withdrawing.{at_inside, memory_is, used_are, left_apart}
 use Rattle.book.proofs.Means.{rules_without}
 use Rattle.filters.specs.Meaning.{rules}
 use Rattle.book.proofs.book.Book.withdraw.Goals as goal
+
+pub returns-in_default-clause-answer : goal.returns-in_default-clause-answer
+returns-in_default-clause-answer g c =
+    sym (ap withdraw_verdict (sym (has_position (λ r. r.label) c.args.label (take c.args.self.now.used c.args.self.now.places.now)) ∙ ap is_some (sym c.place_of.ensures ∙ c.in_default.is)))
 
 pub take_out-requires : goal.take_out-requires
 take_out-requires g c = (at_inside c.args.self.now.places.now c.args.self.now.used c.in-Some.at c.args.label c.args.self.now.fits c.in-Some.ensures, c.args.self.now.fits)
@@ -14,7 +17,7 @@ pub returns : goal.returns
 returns g c =
     let f = c.in-Some.ensures in
     record {
-      answer = sym (ap withdraw_verdict (has_at c.args.label (labels (take c.args.self.now.used c.args.self.now.places.now)) c.in-Some.at f.inside f.here));
+      answer = sym (ap withdraw_verdict (sym (has_position (λ r. r.label) c.args.label (take c.args.self.now.used c.args.self.now.places.now)) ∙ ap is_some (sym f)));
       memory = memory_is c.args.self.now.places.now c.args.self.now.used c.in-Some.at c.args.label c.args.self.now.fits f c.take_out.new.places c.take_out.ensures.memory;
       count = c.take_out.ensures.count;
       meaning =
