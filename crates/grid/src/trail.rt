@@ -56,6 +56,6 @@ impl<'m, D: Address, S: Address, C: Cost> Grid<'m, D, S, C> {
         if trail.len() < trail_need::<D, S>() {
             return Err(TrailFault::Places);
         }
-        Ok(self.search_noted(destination, source, trail))
+        Ok(self.lookup(destination, source, trail))
     }
 }
