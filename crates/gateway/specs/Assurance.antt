@@ -3,6 +3,7 @@ use Rattle.std.specs.Prelude.{◌≡◌, ℕ, ◌+◌, ◌*◌, ◌≤◌, true,
 use Rattle.std.specs.declared.cmp.Ordering.{Ordering}
 use Rattle.kinds.specs.Strings.{Str}
 use Rattle.filters.specs.declared.directive.Directive.{Directive}
+use Rattle.filters.specs.Directives.{named}
 use Rattle.filters.specs.Orders.{In, Each, Apart, Alike, Best}
 use Rattle.filters.specs.Rules.{Rule, linear, matches}
 use Rattle.tries.specs.Shape.{nodes}
@@ -12,7 +13,6 @@ use Rattle.grid.specs.Derived.{Key, key_eq, is_key, place, once, Derived}
 use Rattle.grid.specs.Trails.{visited, Trailed}
 use Rattle.tries.specs.Prefixes.{any}
 use Rattle.grid.specs.Refusals.{trail_verdict}
-use Rattle.grid.specs.Steps.{named}
 use Rattle.gateway.specs.Kinds.{Kinds, BookOf, GridOf, ahead, filters_in}
 use Rattle.gateway.specs.declared.gateway.Gateway.{Gateway}
 use Rattle.gateway.specs.declared.history.Call.{Call}

@@ -7,6 +7,7 @@ use Rattle.std.proofs.lemmas.List.Edits.{sets}
 use Rattle.std.proofs.lemmas.Simd.{map-map}
 use Rattle.kinds.specs.Strings.{Str}
 use Rattle.filters.specs.declared.directive.Directive.{Directive}
+use Rattle.filters.specs.Directives.{named}
 use Rattle.filters.specs.Rules.{Rule, scan, linear}
 use Rattle.filters.specs.Orders.{Apart, Order}
 use Rattle.filters.proofs.Bests.{none_some}
@@ -22,7 +23,7 @@ use Rattle.grid.specs.declared.node.Node.TheVariants.{Empty}
 use Rattle.grid.specs.declared.search.Walk.{Walk}
 use Rattle.grid.specs.Nodes.{node_at, root_of, kept_of, or_else}
 use Rattle.grid.specs.Derived.{Key, destination, source, key_eq, later, place, Rooted, node_of, Derived}
-use Rattle.grid.specs.Steps.{along, entered, step_down, places_down, met, step_on, places_on, named, told}
+use Rattle.grid.specs.Steps.{along, entered, step_down, places_down, met, step_on, places_on, told}
 use Rattle.grid.specs.Trails.{visited, Noted}
 use Rattle.grid.proofs.Places.{place_has, node_at_lem}
 use Rattle.grid.proofs.Ranks.{told_keep, keep_scan}

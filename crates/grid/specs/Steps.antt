@@ -3,7 +3,6 @@ use Rattle.std.specs.Prelude.{ℕ, ◌+◌, Bool, List, [], ◌∷◌, map, Some
 use Rattle.std.specs.Option.{option_map}
 use Rattle.kinds.specs.Strings.{Str}
 use Rattle.filters.specs.declared.directive.Directive.{Directive}
-use Rattle.filters.specs.Rules.{Rule}
 use Rattle.grid.specs.declared.node.Kept.{Kept}
 use Rattle.grid.specs.declared.node.Node.{Node}
 use Rattle.grid.specs.declared.search.Walk.{Walk}
@@ -75,12 +74,6 @@ places_on = places next_of better_kept
 
 -- ---- the answer
 
--- a filter by what a search tells of it: label and directive
-abbrev pub named : {C : Type 0} → Option (Rule C) → Option (ℕ × Directive)
-named None = None
-named (Some f) = Some (f.label, f.directive)
-
 -- what is kept, by label and directive
 abbrev pub told : Option Kept → Option (ℕ × Directive)
-told None = None
-told (Some k) = Some (k.label, k.directive)
+told = option_map (λ k. (k.label, k.directive))

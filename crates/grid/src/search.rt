@@ -2,14 +2,15 @@
 // an address, and a search notes the places that it visits where there is memory for them.
 ghost use Rattle.std.specs.Prelude.{◌≡◌, ℕ, ◌+◌, ◌<◌, ◌≤◌, Bool, true, List, length, None, Option, slice_set};
 ghost use Rattle.std.proofs.lemmas.List.Edits.{sets};
+ghost use Rattle.filters.specs.Directives.{named};
 ghost use Rattle.filters.specs.Rules.{Rule, better, linear};
 ghost use Rattle.filters.specs.Orders.{Apart};
 ghost use Rattle.tries.specs.Search.{visits};
 ghost use Rattle.grid.specs.declared.node.Node.{Node};
-ghost use Rattle.grid.specs.Nodes.{sound, within, links_within, child_of, next_of};
+ghost use Rattle.grid.specs.Nodes.{within, links_within, sound, child_of, next_of};
 ghost use Rattle.grid.specs.Inside.{child_inside, next_inside};
 ghost use Rattle.grid.specs.Derived.{Derived};
-ghost use Rattle.grid.specs.Steps.{last_root, better_kept, visited, stepped, along, places, named, told};
+ghost use Rattle.grid.specs.Steps.{last_root, better_kept, visited, stepped, along, places, told};
 ghost use Rattle.grid.specs.Trails.{Noted};
 
 use crate::grid::Grid;

@@ -1,10 +1,10 @@
 // The trail of a search: the places of the nodes that it visits, in order, in memory that is handed in.
 ghost use Rattle.std.specs.Prelude.{◌≡◌, ◌+◌, ◌<◌, ◌≤◌, List, length, MatchResult};
+ghost use Rattle.filters.specs.Directives.{named};
 ghost use Rattle.filters.specs.Rules.{Rule, better, linear};
 ghost use Rattle.filters.specs.Orders.{Apart};
 ghost use Rattle.tries.specs.Search.{visits};
 ghost use Rattle.grid.specs.Derived.{Derived};
-ghost use Rattle.grid.specs.Steps.{named};
 ghost use Rattle.grid.specs.Trails.{Trailed};
 ghost use Rattle.grid.specs.declared.trail.TrailFault.TheVariants.{Places};
 ghost use Rattle.grid.specs.Refusals.{trail_number, trail_verdict};
