@@ -3,12 +3,12 @@ use Rattle.std.proofs.Common.{◌≡◌, ℕ, ◌+◌, ◌<◌, ◌≤◌, Bool,
 use Rattle.std.proofs.lemmas.Bool.{cases_lt, lt-ltb, le-ltb}
 use Rattle.kinds.specs.Strings.{Str, bits}
 use Rattle.kinds.specs.Bits.{length_bits}
+use Rattle.filters.specs.Directives.{named}
 use Rattle.filters.specs.Orders.{Apart, Compares, BestMatch}
 use Rattle.filters.specs.Rules.{Rule, better, linear}
 use Rattle.filters.proofs.Bests.{linear_is_best}
 use Rattle.tries.specs.Search.{visits}
 use Rattle.tries.proofs.Visits.{visits_few}
-use Rattle.grid.specs.Steps.{named}
 use Rattle.grid.specs.declared.trail.TrailFault.{TrailFault}
 use Rattle.grid.specs.declared.trail.TrailFault.TheVariants.{Places}
 use Rattle.grid.specs.Refusals.{trail_verdict}

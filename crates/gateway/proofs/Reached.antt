@@ -1,6 +1,7 @@
 -- How a gateway follows its history, call after call, and what is assured at the end.
 use Rattle.std.proofs.Common.{◌≡◌, ℕ, zero, suc, ◌+◌, ◌*◌, ◌≤◌, List, [], ◌∷◌, length, sym, refl, ap, ◌∙◌, subst, arith}
 use Rattle.kinds.specs.Strings.{Str}
+use Rattle.filters.specs.Directives.{named}
 use Rattle.filters.specs.Orders.{Compares}
 use Rattle.filters.specs.Rules.{better}
 use Rattle.filters.proofs.Bests.{ranks}
@@ -8,7 +9,6 @@ use Rattle.tries.specs.Shape.{nodes, need}
 use Rattle.tries.proofs.Nodes.{nodes_few}
 use Rattle.tries.proofs.Same.{order_is_nothing}
 use Rattle.grid.specs.Refusals.{trail_verdict}
-use Rattle.grid.specs.Steps.{named}
 use Rattle.grid.proofs.Counts.{keys_count}
 use Rattle.gateway.specs.declared.history.Call.{Call}
 use Rattle.gateway.specs.declared.history.Outcome.{Outcome}

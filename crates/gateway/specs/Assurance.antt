@@ -7,6 +7,7 @@ use Rattle.kinds.specs.declared.plain.Plain as Plain
 use Rattle.kinds.specs.declared.written.Written as Written
 use Rattle.kinds.specs.Strings.{Str}
 use Rattle.filters.specs.declared.directive.Directive.{Directive}
+use Rattle.filters.specs.Directives.{named}
 use Rattle.filters.specs.Orders.{In, Each, Apart, Alike, Best}
 use Rattle.filters.specs.Rules.{Rule, linear, matches}
 use Rattle.tries.specs.Shape.{nodes}
@@ -16,7 +17,6 @@ use Rattle.grid.specs.Derived.{Key, key_eq, is_key, place, once, Derived}
 use Rattle.grid.specs.Trails.{visited, Trailed}
 use Rattle.tries.specs.Prefixes.{any}
 use Rattle.grid.specs.Refusals.{trail_verdict}
-use Rattle.grid.specs.Steps.{named}
 use Rattle.gateway.specs.Kinds.{Kinds, kinds_of, BookOf, GridOf, ahead, filters_in}
 use Rattle.gateway.specs.declared.gateway.Gateway.{Gateway}
 use Rattle.gateway.specs.declared.history.Call.{Call}

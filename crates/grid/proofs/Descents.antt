@@ -10,7 +10,7 @@ use Rattle.tries.proofs.Longest.{longest_some, longest_never}
 use Rattle.tries.proofs.Finds.{dst_front, src_dst}
 use Rattle.tries.proofs.Visits.{until_map}
 use Rattle.grid.specs.declared.node.Node.{Node}
-use Rattle.grid.specs.declared.search.Descent.{Descent}
+use Rattle.grid.specs.declared.search.Walk.{Walk}
 use Rattle.grid.specs.Nodes.{child_of, or_else, root_of}
 use Rattle.grid.specs.Derived.{Key, destination, source, key_eq, is_key, place, node_of}
 use Rattle.grid.specs.Steps.{onward, along, entered, step_down}
@@ -49,9 +49,9 @@ found at (Some u) = at u
 module _ {C : Type 0} (lt : Rule C → Rule C → Bool) (F : List (Rule C)) (keys : List Key) (whole : (k : Key) → any (key_eq k) keys ≡ is_key F k)
     (N rest : List Node) (nodes : N ≡ map (node_of lt F keys) keys ++ rest) where
   -- the descent ended at e; w was at the node of the empty string, and acc was the last root before it
-  pub record Fallen (p q : Str → Bool) (at : Str → Option ℕ) (w e : Descent) (acc : Option ℕ) (r : Str) : Type 0 where
+  pub record Fallen (p q : Str → Bool) (at : Str → Option ℕ) (w e : Walk ℕ) (acc : Option ℕ) (r : Str) : Type 0 where
     pub visits : e.visits + 1 ≡ w.visits + length (until q (fronts r))
-    pub root : e.root ≡ or_else (found at (longest p r)) acc
+    pub root : e.kept ≡ or_else (found at (longest p r)) acc
 
   -- p, q and at are of the strings that begin with t: whether they have a source root, a destination node, and where the root is
   pub record Under (t : Str) (p q : Str → Bool) (at : Str → Option ℕ) : Type 0 where
@@ -121,8 +121,8 @@ module _ {C : Type 0} (lt : Rule C → Rule C → Bool) (F : List (Rule C)) (key
   falls t false = refl
   falls t true = refl
 
-  pub fall_is : (r t : Str) (p q : Str → Bool) (at : Str → Option ℕ) → Under t p q at → (w : Descent) (acc : Option ℕ)
-      → place (destination t) keys ≡ Some w.at → w.root ≡ or_else (at []) acc → Fallen p q at w (along (step_down N) w r) acc r
+  pub fall_is : (r t : Str) (p q : Str → Bool) (at : Str → Option ℕ) → Under t p q at → (w : Walk ℕ) (acc : Option ℕ)
+      → place (destination t) keys ≡ Some w.at → w.kept ≡ or_else (at []) acc → Fallen p q at w (along (step_down N) w r) acc r
   fall_is [] t p q at h w acc e k =
       let here = stands_here t p q at h w.at e in
       record {
@@ -130,26 +130,26 @@ module _ {C : Type 0} (lt : Rule C → Rule C → Bool) (F : List (Rule C)) (key
         root = k ∙ ap (λ (o : Option ℕ). or_else o acc) (at_end t p q at h);
       }
   fall_is (b ∷ r) t p q at h w acc e k =
-      subst (λ (o : Option ℕ). Fallen p q at w (onward (option_map (entered N w.root w.visits) o) w (λ v. along (step_down N) v r)) acc (b ∷ r))
+      subst (λ (o : Option ℕ). Fallen p q at w (onward (option_map (entered N w.kept w.visits) o) w (λ v. along (step_down N) v r)) acc (b ∷ r))
       (sym (ap (λ (n : Node). child_of n b) (node_at_lem (node_of lt F keys) keys N rest nodes (destination t) w.at e) ∙ falls t b))
       (elim (cases_Bool (has_dst F (snoc t b))) [
         | inl y ↦
             let m = place_has (destination (snoc t b)) keys (whole (destination (snoc t b)) ∙ y) in
-            let v : Descent = entered N w.root w.visits m.0 in
+            let v : Walk ℕ = entered N w.kept w.visits m.0 in
             let h' = under_next t p q at b h in
             let z = node_at_lem (node_of lt F keys) keys N rest nodes (destination (snoc t b)) m.0 m.1 in
             let c =
-            fall_is r (snoc t b) (λ u. p (b ∷ u)) (λ u. q (b ∷ u)) (λ u. at (b ∷ u)) h' v w.root m.1
-            (ap (λ (n : Node). or_else (root_of n) w.root) z
-            ∙ ap (λ (o : Option ℕ). or_else o w.root) (sym (at_root (snoc t b) (λ u. p (b ∷ u)) (λ u. q (b ∷ u)) (λ u. at (b ∷ u)) h'))) in
+            fall_is r (snoc t b) (λ u. p (b ∷ u)) (λ u. q (b ∷ u)) (λ u. at (b ∷ u)) h' v w.kept m.1
+            (ap (λ (n : Node). or_else (root_of n) w.kept) z
+            ∙ ap (λ (o : Option ℕ). or_else o w.kept) (sym (at_root (snoc t b) (λ u. p (b ∷ u)) (λ u. q (b ∷ u)) (λ u. at (b ∷ u)) h'))) in
             let cv = c.visits in
             let more = until_some q b r (stands_here t p q at h w.at e) in
-            subst (λ (o : Option ℕ). Fallen p q at w (onward (option_map (entered N w.root w.visits) o) w (λ v. along (step_down N) v r)) acc (b ∷ r)) (sym m.1)
-            (record { visits = omega arith; root = c.root ∙ root_more t p q at h b r acc w.root k })
+            subst (λ (o : Option ℕ). Fallen p q at w (onward (option_map (entered N w.kept w.visits) o) w (λ v. along (step_down N) v r)) acc (b ∷ r)) (sym m.1)
+            (record { visits = omega arith; root = c.root ∙ root_more t p q at h b r acc w.kept k })
         | inr y ↦
             let more = until_some q b r (stands_here t p q at h w.at e) in
             let none = ap length (until_none (λ u. q (b ∷ u)) r (h.stands (b ∷ []) ∙ y)) in
-            subst (λ (o : Option ℕ). Fallen p q at w (onward (option_map (entered N w.root w.visits) o) w (λ v. along (step_down N) v r)) acc (b ∷ r))
+            subst (λ (o : Option ℕ). Fallen p q at w (onward (option_map (entered N w.kept w.visits) o) w (λ v. along (step_down N) v r)) acc (b ∷ r))
             (sym (place_none (destination (snoc t b)) keys (whole (destination (snoc t b)) ∙ y)))
             (record {
               visits = omega arith;

@@ -10,7 +10,8 @@ use Rattle.tries.proofs.Standings.{standings_decide}
 use Rattle.grid.specs.declared.node.Kept.{Kept}
 use Rattle.grid.specs.Nodes.{pick_kept}
 use Rattle.grid.specs.Derived.{keep}
-use Rattle.grid.specs.Steps.{named, told}
+use Rattle.filters.specs.Directives.{named}
+use Rattle.grid.specs.Steps.{told}
 
 -- the best of acc and the list, by standing
 abbrev pub pick_all : Option Kept → List (Option Kept) → Option Kept

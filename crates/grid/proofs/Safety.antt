@@ -11,7 +11,8 @@ use Rattle.grid.specs.Nodes.{node_at, child_of, switch_of, next_of, root_of, wit
 use Rattle.grid.specs.Edits.{lead_of, leading, bud_of, keep_in, switched, finish_in}
 use Rattle.grid.specs.Build.{Safe}
 use Rattle.grid.proofs.Wiped.{sound_wiped, bare_wiped}
-use Rattle.grid.proofs.Sound.{links, else_within, links_more, sound_at, sound_more}
+use Rattle.grid.specs.Inside.{else_within}
+use Rattle.grid.proofs.Sound.{links, links_more, sound_at, sound_more}
 
 -- ---- a node's links
 

@@ -1,8 +1,9 @@
 -- In sound memory every reading of a link stays inside.
-use Rattle.std.proofs.Common.{◌≡◌, ℕ, zero, suc, ◌<◌, ◌≤◌, Bool, true, false, ◌&&◌, List, [], ◌∷◌, Some, None, Option, sym, refl, subst, arith}
+use Rattle.std.proofs.Common.{◌≡◌, ℕ, zero, suc, ◌<◌, ◌≤◌, Bool, true, false, List, [], ◌∷◌, Some, None, Option, sym, refl, subst, arith}
 use Rattle.std.proofs.lemmas.Bool.{and_parts, and_from, ltb-true, lt-ltb}
 use Rattle.grid.specs.declared.node.Node.{Node}
-use Rattle.grid.specs.Nodes.{node_at, child_of, switch_of, next_of, or_else, root_of, within, links_within, sound}
+use Rattle.grid.specs.Nodes.{node_at, child_of, switch_of, root_of, within, links_within, sound}
+use Rattle.grid.specs.Inside.{child_inside, switch_inside, root_inside}
 
 -- each link of a node, where all are within
 pub record Links (used : ℕ) (n : Node) : Type 0 where
@@ -11,54 +12,15 @@ pub record Links (used : ℕ) (n : Node) : Type 0 where
   pub root : within used (root_of n) ≡ true
 
 pub links : (used : ℕ) (n : Node) → links_within used n ≡ true → Links used n
-links used n h = record { child = child; switch = switch; root = e.1 }
-  where
-    w : Option ℕ → Bool
-    w = within used
-
-    a : (w (child_of n false) ≡ true) × ((w (child_of n true) && (w (switch_of n false) && (w (switch_of n true) && w (root_of n)))) ≡ true)
-    a = and_parts (w (child_of n false)) (w (child_of n true) && (w (switch_of n false) && (w (switch_of n true) && w (root_of n)))) h
-
-    b : (w (child_of n true) ≡ true) × ((w (switch_of n false) && (w (switch_of n true) && w (root_of n))) ≡ true)
-    b = and_parts (w (child_of n true)) (w (switch_of n false) && (w (switch_of n true) && w (root_of n))) a.1
-
-    d : (w (switch_of n false) ≡ true) × ((w (switch_of n true) && w (root_of n)) ≡ true)
-    d = and_parts (w (switch_of n false)) (w (switch_of n true) && w (root_of n)) b.1
-
-    e : (w (switch_of n true) ≡ true) × (w (root_of n) ≡ true)
-    e = and_parts (w (switch_of n true)) (w (root_of n)) d.1
-
-    child : (t : Bool) → w (child_of n t) ≡ true
-    child false = a.0
-    child true = b.0
-
-    switch : (t : Bool) → w (switch_of n t) ≡ true
-    switch false = d.0
-    switch true = e.0
+links used n h = record { child = λ b. child_inside used n b h; switch = λ b. switch_inside used n b h; root = root_inside used n h }
 
 pub sound_at : (used : ℕ) (N : List Node) (p : ℕ) → sound used N ≡ true → links_within used (node_at N p) ≡ true
 sound_at used [] p h = refl
 sound_at used (n ∷ N) zero h = (and_parts (links_within used n) (sound used N) h).0
 sound_at used (n ∷ N) (suc p) h = sound_at used N p (and_parts (links_within used n) (sound used N) h).1
 
-pub else_within : (used : ℕ) (x y : Option ℕ) → within used x ≡ true → within used y ≡ true → within used (or_else x y) ≡ true
-else_within used None y h k = k
-else_within used (Some p) y h k = h
-
 pub within_lt : (used p : ℕ) (o : Option ℕ) → within used o ≡ true → Some p ≡ o → p < used
 within_lt used p o h e = ltb-true p used (subst (λ (x : Option ℕ). within used x ≡ true) (sym e) h)
-
-module _ (used : ℕ) (N : List Node) (h : sound used N ≡ true) (p : ℕ) where
-  pub child_within : (b : Bool) → within used (child_of (node_at N p) b) ≡ true
-  child_within b = (links used (node_at N p) (sound_at used N p h)).child b
-
-  pub root_within : within used (root_of (node_at N p)) ≡ true
-  root_within = (links used (node_at N p) (sound_at used N p h)).root
-
-  pub next_within : (b : Bool) → within used (next_of (node_at N p) b) ≡ true
-  next_within b =
-      else_within used (child_of (node_at N p) b) (switch_of (node_at N p) b) (child_within b)
-      ((links used (node_at N p) (sound_at used N p h)).switch b)
 
 -- ---- a larger bound
 

@@ -10,8 +10,8 @@ use Rattle.filters.specs.Rules.{Rule}
 use Rattle.tries.specs.Prefixes.{any, fronts, until}
 use Rattle.tries.specs.Shape.{has_dst, has_src, next}
 use Rattle.tries.specs.Search.{led, walk, way, path, visits}
+use Rattle.grid.specs.declared.node.Kept.{Kept}
 use Rattle.grid.specs.declared.node.Node.{Node}
-use Rattle.grid.specs.declared.search.Descent.{Descent}
 use Rattle.grid.specs.declared.search.Walk.{Walk}
 use Rattle.grid.specs.Nodes.{child_of, next_of}
 use Rattle.grid.specs.Derived.{Key, destination, source, key_eq, is_key, place, place_of, node_of}
@@ -77,17 +77,17 @@ module _ {C : Type 0} (lt : Rule C → Rule C → Bool) (F : List (Rule C)) (key
       ∙ ap (map (λ u. place (destination (t ++ u)) keys)) (sym (until_first (λ u. has_dst F (t ++ u)) b r h))
 
   -- the places that a descent notes from the node of t on
-  pub traced_down : (r t : Str) (w : Descent) → place (destination t) keys ≡ Some w.at → map Some (places_down N w r) ≡ below t r
+  pub traced_down : (r t : Str) (w : Walk ℕ) → place (destination t) keys ≡ Some w.at → map Some (places_down N w r) ≡ below t r
   traced_down [] t w e = let h = below_here t w.at e in rw h.1 (ap (λ (o : Option ℕ). o ∷ []) h.0)
   traced_down (b ∷ r) t w e =
       let h = below_here t w.at e in
       let from : Option ℕ → List (Option ℕ) =
-      λ o. map Some (map (λ (v : Descent). v.at) (beyond (option_map (entered N w.root w.visits) o) (λ v. v ∷ trace (step_down N) v r))) in
+      λ o. map Some (map (λ (v : Walk ℕ). v.at) (beyond (option_map (entered N w.kept w.visits) o) (λ v. v ∷ trace (step_down N) v r))) in
       let on : from (place (destination (snoc t b)) keys) ≡ below (snoc t b) r =
       elim (cases_Bool (has_dst F (snoc t b))) [
         | inl y ↦
             let m = place_has (destination (snoc t b)) keys (whole (destination (snoc t b)) ∙ y) in
-            ap from m.1 ∙ traced_down r (snoc t b) (entered N w.root w.visits m.0) m.1
+            ap from m.1 ∙ traced_down r (snoc t b) (entered N w.kept w.visits m.0) m.1
         | inr y ↦
             ap from (place_none (destination (snoc t b)) keys (whole (destination (snoc t b)) ∙ y))
             ∙ ap (map (λ u. place (destination (snoc t b ++ u)) keys)) (sym (until_none (λ u. has_dst F (snoc t b ++ u)) r (ap (has_dst F) (append-nil (snoc t b)) ∙ y)))
@@ -96,7 +96,7 @@ module _ {C : Type 0} (lt : Rule C → Rule C → Bool) (F : List (Rule C)) (key
       ap (λ (o : Option ℕ). Some w.at ∷ from o) link ∙ (λ i. h.0 i ∷ on i) ∙ below_more t b r h.1
 
   -- the places that a walk notes from the node of (D, s) on
-  pub traced_on : (r D s : Str) (w : Walk) → place (source D s) keys ≡ Some w.at
+  pub traced_on : (r D s : Str) (w : Walk Kept) → place (source D s) keys ≡ Some w.at
       → map Some (places_on N w r) ≡ map (λ k. place (source k.0 k.1) keys) (walk (has_src F) D s r)
   traced_on [] D s w e = ap (λ (o : Option ℕ). o ∷ []) (sym e)
   traced_on (b ∷ r) D s w e =
@@ -104,14 +104,14 @@ module _ {C : Type 0} (lt : Rule C → Rule C → Bool) (F : List (Rule C)) (key
       ∙ (λ i. sym e i ∷ go (next (has_src F) D s b) refl (λ A v q. traced_on r A (snoc s b) v q) i)
     where
       from : Option ℕ → List (Option ℕ)
-      from o = map Some (map (λ (v : Walk). v.at) (beyond (option_map (met N w.best w.visits) o) (λ v. v ∷ trace (step_on N) v r)))
+      from o = map Some (map (λ (v : Walk Kept). v.at) (beyond (option_map (met N w.kept w.visits) o) (λ v. v ∷ trace (step_on N) v r)))
 
       go : (o : Option Str) → next (has_src F) D s b ≡ o
-          → ((A : Str) (v : Walk) → place (source A (snoc s b)) keys ≡ Some v.at
+          → ((A : Str) (v : Walk Kept) → place (source A (snoc s b)) keys ≡ Some v.at
           → map Some (places_on N v r) ≡ map (λ k. place (source k.0 k.1) keys) (walk (has_src F) A (snoc s b) r))
           → from (place_of keys (snoc s b) o) ≡ map (λ k. place (source k.0 k.1) keys) (led o (λ A. walk (has_src F) A (snoc s b) r))
       go None q more = refl
       go (Some A) q more =
           let k = source A (snoc s b) in
           let m = place_has k keys (whole k ∙ next_has (has_src F) D s A b q) in
-          ap from m.1 ∙ more A (met N w.best w.visits m.0) m.1
+          ap from m.1 ∙ more A (met N w.kept w.visits m.0) m.1

@@ -50,32 +50,32 @@ module _ {C : Type 0} (lt : Rule C → Rule C → Bool) (F : List (Rule C)) (key
   -- ---- and memory that holds their nodes
   module _ (N rest : List Node) (nodes : N ≡ map (node_of lt F keys) keys ++ rest) where
     -- the walk ended at e, when w had been to the first of the keys and to nothing of the others, which gave acc before
-    pub record Crossed (w e : Walk) (acc : Option Kept) (ks : List (Str × Str)) : Type 0 where
+    pub record Crossed (w e : Walk Kept) (acc : Option Kept) (ks : List (Str × Str)) : Type 0 where
       pub visits : e.visits + 1 ≡ w.visits + length ks
-      pub best : e.best ≡ pick_all acc (map (λ k. keep lt F (kept lt F k)) ks)
+      pub best : e.kept ≡ pick_all acc (map (λ k. keep lt F (kept lt F k)) ks)
 
-    pub cross_is : (r D s : Str) (w : Walk) (acc : Option Kept) → place (source D s) keys ≡ Some w.at
-        → w.best ≡ pick_kept acc (keep lt F (kept lt F (D, s)))
+    pub cross_is : (r D s : Str) (w : Walk Kept) (acc : Option Kept) → place (source D s) keys ≡ Some w.at
+        → w.kept ≡ pick_kept acc (keep lt F (kept lt F (D, s)))
         → Crossed w (along (step_on N) w r) acc (walk (has_src F) D s r)
     cross_is [] D s w acc p h = record { visits = refl; best = h }
     cross_is (b ∷ r) D s w acc p h =
-        subst (λ (o : Option ℕ). Crossed w (onward (option_map (met N w.best w.visits) o) w (λ v. along (step_on N) v r)) acc (walk (has_src F) D s (b ∷ r)))
+        subst (λ (o : Option ℕ). Crossed w (onward (option_map (met N w.kept w.visits) o) w (λ v. along (step_on N) v r)) acc (walk (has_src F) D s (b ∷ r)))
         (sym (ap (λ (n : Node). next_of n b) (node_at_lem (node_of lt F keys) keys N rest nodes (source D s) w.at p) ∙ leads D s b))
-        (go (next (has_src F) D s b) refl (λ A v q k. cross_is r A (snoc s b) v w.best q k))
+        (go (next (has_src F) D s b) refl (λ A v q k. cross_is r A (snoc s b) v w.kept q k))
       where
         go : (o : Option Str) → next (has_src F) D s b ≡ o
-            → ((A : Str) (v : Walk) → place (source A (snoc s b)) keys ≡ Some v.at → v.best ≡ pick_kept w.best (keep lt F (kept lt F (A, snoc s b)))
-            → Crossed v (along (step_on N) v r) w.best (walk (has_src F) A (snoc s b) r))
-            → Crossed w (onward (option_map (met N w.best w.visits) (place_of keys (snoc s b) o)) w (λ v. along (step_on N) v r)) acc
+            → ((A : Str) (v : Walk Kept) → place (source A (snoc s b)) keys ≡ Some v.at → v.kept ≡ pick_kept w.kept (keep lt F (kept lt F (A, snoc s b)))
+            → Crossed v (along (step_on N) v r) w.kept (walk (has_src F) A (snoc s b) r))
+            → Crossed w (onward (option_map (met N w.kept w.visits) (place_of keys (snoc s b) o)) w (λ v. along (step_on N) v r)) acc
             ((D, s) ∷ led o (λ A. walk (has_src F) A (snoc s b) r))
         go None q more = record { visits = refl; best = h }
         go (Some A) q more =
             let k = source A (snoc s b) in
             let m = place_has k keys (whole k ∙ next_has (has_src F) D s A b q) in
-            let v : Walk = met N w.best w.visits m.0 in
-            let c = more A v m.1 (ap (λ (n : Node). pick_kept w.best (kept_of n)) (node_at_lem (node_of lt F keys) keys N rest nodes k m.0 m.1)) in
+            let v : Walk Kept = met N w.kept w.visits m.0 in
+            let c = more A v m.1 (ap (λ (n : Node). pick_kept w.kept (kept_of n)) (node_at_lem (node_of lt F keys) keys N rest nodes k m.0 m.1)) in
             let cv = c.visits in
-            subst (λ (o : Option ℕ). Crossed w (onward (option_map (met N w.best w.visits) o) w (λ v. along (step_on N) v r)) acc
+            subst (λ (o : Option ℕ). Crossed w (onward (option_map (met N w.kept w.visits) o) w (λ v. along (step_on N) v r)) acc
             ((D, s) ∷ walk (has_src F) A (snoc s b) r)) (sym m.1)
             (record {
               visits = omega arith;

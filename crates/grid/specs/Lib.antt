@@ -1,4 +1,5 @@
 pub mod Nodes
+pub mod Inside
 pub mod Derived
 pub mod Steps
 pub mod Edits

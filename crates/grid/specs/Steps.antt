@@ -1,12 +1,10 @@
 -- A search of nodes in memory, step by step.
-use Rattle.std.specs.Prelude.{ℕ, ◌+◌, Bool, List, [], ◌∷◌, map, Some, None, Option, slice_set}
+use Rattle.std.specs.Prelude.{ℕ, ◌+◌, Bool, List, [], ◌∷◌, map, Some, None, Option}
 use Rattle.std.specs.Option.{option_map}
 use Rattle.kinds.specs.Strings.{Str}
 use Rattle.filters.specs.declared.directive.Directive.{Directive}
-use Rattle.filters.specs.Rules.{Rule}
 use Rattle.grid.specs.declared.node.Kept.{Kept}
 use Rattle.grid.specs.declared.node.Node.{Node}
-use Rattle.grid.specs.declared.search.Descent.{Descent}
 use Rattle.grid.specs.declared.search.Walk.{Walk}
 use Rattle.grid.specs.Nodes.{node_at, child_of, next_of, or_else, root_of, kept_of, pick_kept}
 
@@ -30,49 +28,52 @@ abbrev pub trace : {X : Type 0} → (X → Bool → Option X) → X → Str → 
 trace step x [] = []
 trace step x (b ∷ r) = beyond (step x b) (λ y. y ∷ trace step y r)
 
--- ---- notes
+-- ---- a walk, which goes from a node by a bit where `leads` says, and keeps of a node what `keeps` says
+module _ {K : Type 0} (leads : Node → Bool → Option ℕ) (keeps : Option K → Node → Option K) where
+  -- the node at p is visited, after n others, and last was kept before
+  abbrev pub visited : List Node → Option K → ℕ → ℕ → Walk K
+  visited N last n p = record { at = p; kept = keeps last (node_at N p); visits = n + 1 }
 
--- p, where there is one, is written at place i; a place behind the end of the memory takes nothing
-abbrev pub jotted : List ℕ → ℕ → Option ℕ → List ℕ
-jotted m i None = m
-jotted m i (Some p) = slice_set m i p
+  -- one step on, by a bit
+  abbrev pub stepped : List Node → Walk K → Bool → Option (Walk K)
+  stepped N w b = option_map (visited N w.kept w.visits) (leads (node_at N w.at) b)
+
+  -- the places of the nodes that a walk visits from w on, along the bits of a string
+  abbrev pub places : List Node → Walk K → Str → List ℕ
+  places N w t = w.at ∷ map (λ v. v.at) (trace (stepped N) w t)
 
 -- ---- down the destination trie
 
--- the destination node at p is visited: its source root, where it has one, takes the place of the last
-abbrev pub entered : List Node → Option ℕ → ℕ → ℕ → Descent
-entered N root n p = record { at = p; root = or_else (root_of (node_at N p)) root; visits = n + 1 }
+-- the source root of a destination node, where it has one, takes the place of the last
+abbrev pub last_root : Option ℕ → Node → Option ℕ
+last_root root n = or_else (root_of n) root
 
--- one step down, by a bit
-abbrev pub step_down : List Node → Descent → Bool → Option Descent
-step_down N w b = option_map (entered N w.root w.visits) (child_of (node_at N w.at) b)
+abbrev pub entered : List Node → Option ℕ → ℕ → ℕ → Walk ℕ
+entered = visited child_of last_root
 
--- the places of the nodes that a descent visits from w on, along the bits of a string
-abbrev pub places_down : List Node → Descent → Str → List ℕ
-places_down N w t = w.at ∷ map (λ v. v.at) (trace (step_down N) w t)
+abbrev pub step_down : List Node → Walk ℕ → Bool → Option (Walk ℕ)
+step_down = stepped child_of last_root
 
--- ---- along the source tries
+abbrev pub places_down : List Node → Walk ℕ → Str → List ℕ
+places_down = places child_of last_root
 
--- the source node at p is visited: the better of what it keeps and what was kept so far is kept
-abbrev pub met : List Node → Option Kept → ℕ → ℕ → Walk
-met N best n p = record { at = p; best = pick_kept best (kept_of (node_at N p)); visits = n + 1 }
+-- ---- along the source tries, to the child or along the switch
 
--- one step on, by a bit: to the child or along the switch
-abbrev pub step_on : List Node → Walk → Bool → Option Walk
-step_on N w b = option_map (met N w.best w.visits) (next_of (node_at N w.at) b)
+-- the better of what a source node keeps and what was kept so far
+abbrev pub better_kept : Option Kept → Node → Option Kept
+better_kept best n = pick_kept best (kept_of n)
 
--- the places of the nodes that a walk visits from w on, along the bits of a string
-abbrev pub places_on : List Node → Walk → Str → List ℕ
-places_on N w t = w.at ∷ map (λ v. v.at) (trace (step_on N) w t)
+abbrev pub met : List Node → Option Kept → ℕ → ℕ → Walk Kept
+met = visited next_of better_kept
+
+abbrev pub step_on : List Node → Walk Kept → Bool → Option (Walk Kept)
+step_on = stepped next_of better_kept
+
+abbrev pub places_on : List Node → Walk Kept → Str → List ℕ
+places_on = places next_of better_kept
 
 -- ---- the answer
 
--- a filter by what a search tells of it: label and directive
-abbrev pub named : {C : Type 0} → Option (Rule C) → Option (ℕ × Directive)
-named None = None
-named (Some f) = Some (f.label, f.directive)
-
 -- what is kept, by label and directive
 abbrev pub told : Option Kept → Option (ℕ × Directive)
-told None = None
-told (Some k) = Some (k.label, k.directive)
+told = option_map (λ k. (k.label, k.directive))

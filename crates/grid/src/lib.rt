@@ -8,7 +8,6 @@ mod finish;
 pub mod grid;
 mod insert;
 pub mod node;
-mod noting;
 pub mod search;
 mod span;
 pub mod trail;

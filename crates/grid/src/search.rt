@@ -1,165 +1,193 @@
-// The search: down the destination trie, then along the source tries by children and switches.
-// Each half goes by a step with a contract of its own, so that whatever else follows a search takes the same steps.
-ghost use Rattle.std.specs.Prelude.{◌≡◌, ◌+◌, ◌<◌, ◌≤◌, true, false, List, length, None, slice_index_or};
+// The search: down the destination trie, then along the source tries by children and switches. Both halves are one walk by the bits of
+// an address, and a search notes the places that it visits where there is memory for them.
+ghost use Rattle.std.specs.Prelude.{◌≡◌, ℕ, ◌+◌, ◌<◌, ◌≤◌, Bool, true, List, length, None, Option, slice_set};
+ghost use Rattle.std.proofs.lemmas.List.Edits.{sets};
+ghost use Rattle.filters.specs.Directives.{named};
 ghost use Rattle.filters.specs.Rules.{Rule, better, linear};
 ghost use Rattle.filters.specs.Orders.{Apart};
 ghost use Rattle.tries.specs.Search.{visits};
-ghost use Rattle.grid.specs.Nodes.{sound, within};
+ghost use Rattle.grid.specs.declared.node.Node.{Node};
+ghost use Rattle.grid.specs.Nodes.{within, links_within, sound, child_of, next_of};
+ghost use Rattle.grid.specs.Inside.{child_inside, next_inside};
 ghost use Rattle.grid.specs.Derived.{Derived};
-ghost use Rattle.grid.specs.Steps.{along, entered, step_down, met, step_on, named, told};
+ghost use Rattle.grid.specs.Steps.{last_root, better_kept, visited, stepped, along, places, told};
+ghost use Rattle.grid.specs.Trails.{Noted};
 
 use crate::grid::Grid;
 use crate::node::{Kept, Node, pick_kept};
 use filters::directive::Directive;
 use kinds::address::Address;
+use kinds::bits::Bits;
 use kinds::cost::Cost;
 
-// How far a descent has come: the destination node that it is at, the last source root that it passed, the nodes visited.
+// How far a walk has come: the node that it is at, what it keeps of the nodes that were visited, and how many they are.
 #[derive(Clone, Copy)]
-pub struct Descent {
+pub struct Walk<K> {
     pub(crate) at: u32,
-    pub(crate) root: Option<u32>,
+    pub(crate) kept: Option<K>,
     pub(crate) visits: u32,
 }
 
-impl Descent {
-    // Visits the destination node at a place.
-    pub(crate) fn visit(nodes: &[Node], at: u32, root: Option<u32>, visits: u32) -> Descent
-        requires inside { at < length nodes.now }
-        requires few { visits ≤ 128 }
-        ensures { result ≡ entered nodes.now root visits at }
+// A half of the search: where it goes from a node, and what it keeps of a node that it visits.
+pub(crate) trait Half {
+    type Kept: Copy;
+
+    ghost leads: { Node → Bool → Option ℕ };
+
+    ghost keeps: { Option Self.Kept → Node → Option Self.Kept };
+
+    // Where it goes by a bit.
+    fn next(node: Node, bit: bool) -> Option<u32>
+        ensures { result ≡ leads node bit };
+
+    // What it keeps once a node is visited, `last` being what it kept before.
+    fn keep(last: Option<Self::Kept>, node: Node) -> Option<Self::Kept>
+        ensures { result ≡ keeps last node };
+
+    // it goes nowhere but where the node's links lead
+    ghost inside: { (used : ℕ) (node : Node) (b : Bool) → links_within used node ≡ true → within used (leads node b) ≡ true };
+}
+
+// Down the destination trie; it keeps the last source root that it passed.
+pub(crate) struct Down;
+
+impl Half for Down {
+    type Kept = u32;
+
+    ghost leads = { child_of };
+
+    ghost keeps = { last_root };
+
+    ghost inside = { child_inside };
+
+    fn next(node: Node, bit: bool) -> Option<u32>
+        ensures { result ≡ child_of node bit }
     {
-        let node = nodes[at as usize];
-        let last = match node.source() {
-            Some(new) => Some(new),
-            None => root,
+        node.child(bit)
+    }
+
+    fn keep(last: Option<u32>, node: Node) -> Option<u32>
+        ensures { result ≡ last_root last node }
+    {
+        node.source().or(last)
+    }
+}
+
+// Along the source tries, to the child or along the switch; it keeps the best filter that it met.
+pub(crate) struct On;
+
+impl Half for On {
+    type Kept = Kept;
+
+    ghost leads = { next_of };
+
+    ghost keeps = { better_kept };
+
+    ghost inside = { next_inside };
+
+    fn next(node: Node, bit: bool) -> Option<u32>
+        ensures { result ≡ next_of node bit }
+    {
+        node.next(bit)
+    }
+
+    fn keep(last: Option<Kept>, node: Node) -> Option<Kept>
+        ensures { result ≡ better_kept last node }
+    {
+        pick_kept(last, node.kept())
+    }
+}
+
+// Visits the node at a place, after so many others.
+fn visit<H: Half>(nodes: &[Node], last: Option<H::Kept>, visits: u32, at: u32) -> Walk<H::Kept>
+    requires inside { at < length nodes.now }
+    requires few { visits < u32.MAX }
+    ensures { result ≡ visited H.leads H.keeps nodes.now last visits at }
+{
+    Walk {
+        at,
+        kept: H::keep(last, nodes[at as usize]),
+        visits: visits + 1,
+    }
+}
+
+// Writes the place of the node that is visited after so many; where the trail has no place for it, nothing is written.
+fn note(trail: &mut [u32], visits: u32, at: u32)
+    ensures { trail.new ≡ slice_set trail.old visits at }
+{
+    if (visits as usize) < trail.len() {
+        trail[visits as usize] = at;
+    }
+}
+
+// The walk from the node at a place, by the bits of an address, when so many nodes have been visited before.
+#[inline(always)]
+fn follow<H: Half, A: Address>(
+    nodes: &[Node],
+    start: u32,
+    before: u32,
+    address: &A,
+    trail: &mut [u32],
+) -> Walk<H::Kept>
+    requires inside { start < length nodes.now }
+    requires linked { sound (length nodes.now) nodes.now ≡ true }
+    requires few { before ≤ 129 }
+    ensures end { result ≡ along (stepped H.leads H.keeps nodes.now) (visited H.leads H.keeps nodes.now None before start) (A.Address.string address.now) }
+    ensures few { result.visits ≤ before + 1 + A.Address.WIDTH }
+    ensures notes { trail.new ≡ sets trail.old before (places H.leads H.keeps nodes.now (visited H.leads H.keeps nodes.now None before start) (A.Address.string address.now)) }
+{
+    note(trail, before, start);
+    let mut walk = visit::<H>(nodes, None, before, start);
+    for bit in Bits::of(address) {
+        let Some(at) = H::next(nodes[walk.at as usize], bit) else {
+            return walk;
         };
-        Descent {
-            at,
-            root: last,
-            visits: visits + 1,
-        }
-    }
-
-    // One step down, by the bit of the address at place i.
-    pub(crate) fn step<D: Address>(self, nodes: &[Node], destination: &D, i: u32) -> Option<Descent>
-        requires inside { self.at < length nodes.now }
-        requires linked { sound (length nodes.now) nodes.now ≡ true }
-        requires few { self.visits ≤ 128 }
-        ensures { result ≡ step_down nodes.now self (slice_index_or (D.Address.string destination.now) i false) }
-    {
-        let node = nodes[self.at as usize];
-        match node.child(destination.bit(i)) {
-            Some(at) => Some(Descent::visit(nodes, at, self.root, self.visits)),
-            None => None,
-        }
-    }
-}
-
-// Down the destination trie by the bits of an address, from the node at place 0.
-fn descend<D: Address>(nodes: &[Node], destination: &D) -> Descent
-    requires inside { 0 < length nodes.now }
-    requires linked { sound (length nodes.now) nodes.now ≡ true }
-    ensures end { result ≡ along (step_down nodes.now) (entered nodes.now None 0 0) (D.Address.string destination.now) }
-    ensures inside { within (length nodes.now) result.root ≡ true }
-    ensures few { result.visits ≤ 1 + D.Address.WIDTH }
-{
-    let mut descent = Descent::visit(nodes, 0, None, 0);
-    for i in 0..D::WIDTH {
-        match descent.step(nodes, destination, i) {
-            Some(next) => {
-                descent = next;
-            }
-            None => return descent,
-        }
-    }
-    descent
-}
-
-// How far a walk has come: the source node that it is at, the best that was kept on the way, the source nodes visited.
-#[derive(Clone, Copy)]
-pub struct Walk {
-    pub(crate) at: u32,
-    pub(crate) best: Option<Kept>,
-    pub(crate) visits: u32,
-}
-
-impl Walk {
-    // Visits the source node at a place.
-    pub(crate) fn visit(nodes: &[Node], at: u32, best: Option<Kept>, visits: u32) -> Walk
-        requires inside { at < length nodes.now }
-        requires few { visits ≤ 128 }
-        ensures { result ≡ met nodes.now best visits at }
-    {
-        let node = nodes[at as usize];
-        Walk {
-            at,
-            best: pick_kept(best, node.kept()),
-            visits: visits + 1,
-        }
-    }
-
-    // One step on, by the bit of the address at place i: to the child or along the switch.
-    pub(crate) fn step<S: Address>(self, nodes: &[Node], source: &S, i: u32) -> Option<Walk>
-        requires inside { self.at < length nodes.now }
-        requires linked { sound (length nodes.now) nodes.now ≡ true }
-        requires few { self.visits ≤ 128 }
-        ensures { result ≡ step_on nodes.now self (slice_index_or (S.Address.string source.now) i false) }
-    {
-        let node = nodes[self.at as usize];
-        match node.next(source.bit(i)) {
-            Some(at) => Some(Walk::visit(nodes, at, self.best, self.visits)),
-            None => None,
-        }
-    }
-}
-
-// Along the source tries by the bits of an address, from a root.
-fn follow<S: Address>(nodes: &[Node], root: u32, source: &S) -> Walk
-    requires inside { root < length nodes.now }
-    requires linked { sound (length nodes.now) nodes.now ≡ true }
-    ensures end { result ≡ along (step_on nodes.now) (met nodes.now None 0 root) (S.Address.string source.now) }
-    ensures few { result.visits ≤ 1 + S.Address.WIDTH }
-{
-    let mut walk = Walk::visit(nodes, root, None, 0);
-    for i in 0..S::WIDTH {
-        match walk.step(nodes, source, i) {
-            Some(next) => {
-                walk = next;
-            }
-            None => return walk,
-        }
+        note(trail, walk.visits, at);
+        walk = visit::<H>(nodes, walk.kept, walk.visits, at);
     }
     walk
 }
 
 // What is told of the filter that was kept: its label and its directive.
-pub(crate) fn tell(best: Option<Kept>) -> Option<(u16, Directive)>
+fn tell(best: Option<Kept>) -> Option<(u16, Directive)>
     ensures { result ≡ told best }
 {
-    match best {
-        Some(kept) => Some((kept.label, kept.directive)),
-        None => None,
-    }
+    best.map(|kept| (kept.label, kept.directive))
 }
 
 impl<'m, D: Address, S: Address, C: Cost> Grid<'m, D, S, C> {
-    // The best filter that matches the two addresses, by its label and directive, and how many nodes were visited. Nothing is refused.
-    pub fn classify(&self, destination: &D, source: &S) -> (Option<(u16, Directive)>, u32)
+    // The search of two addresses. It notes every visit in the trail, at the place of its number, as far as the trail has places; it is
+    // compiled into both of its callers, so that a search with no trail pays nothing for notes.
+    #[inline(always)]
+    pub(crate) fn lookup(
+        &self,
+        destination: &D,
+        source: &S,
+        trail: &mut [u32],
+    ) -> (Option<(u16, Directive)>, u32)
         ensures best { (F : List (Rule C)) → Apart F → Derived (better C.Cost.order) F self.now.nodes.now self.now.used → result.0 ≡ named (linear (better C.Cost.order) F (D.Address.string destination.now) (S.Address.string source.now)) }
         ensures visits { (F : List (Rule C)) → Derived (better C.Cost.order) F self.now.nodes.now self.now.used → result.1 ≡ visits F (D.Address.string destination.now) (S.Address.string source.now) }
+        ensures notes { (F : List (Rule C)) → (g : Derived (better C.Cost.order) F self.now.nodes.now self.now.used) → D.Address.WIDTH + S.Address.WIDTH + 2 ≤ length trail.old → Noted g.keys F (D.Address.string destination.now) (S.Address.string source.now) trail.old trail.new }
     {
         if self.used == 0 {
             return (None, 0);
         }
         let nodes = &*self.nodes;
-        let descent = descend(nodes, destination);
-        match descent.root {
-            None => (None, descent.visits),
+        let down = follow::<Down, D>(nodes, 0, 0, destination, trail);
+        match down.kept {
+            None => (None, down.visits),
             Some(root) => {
-                let walk = follow(nodes, root, source);
-                (tell(walk.best), descent.visits + walk.visits)
+                let walk = follow::<On, S>(nodes, root, down.visits, source, trail);
+                (tell(walk.kept), walk.visits)
             }
         }
+    }
+
+    // The best filter that matches the two addresses, by its label and directive, and how many nodes were visited. Nothing is refused.
+    pub fn classify(&self, destination: &D, source: &S) -> (Option<(u16, Directive)>, u32)
+        ensures best { (F : List (Rule C)) → Apart F → Derived (better C.Cost.order) F self.now.nodes.now self.now.used → result.0 ≡ named (linear (better C.Cost.order) F (D.Address.string destination.now) (S.Address.string source.now)) }
+        ensures visits { (F : List (Rule C)) → Derived (better C.Cost.order) F self.now.nodes.now self.now.used → result.1 ≡ visits F (D.Address.string destination.now) (S.Address.string source.now) }
+    {
+        self.lookup(destination, source, &mut [])
     }
 }

@@ -1,10 +1,10 @@
 // The trail of a search: the places of the nodes that it visits, in order, in memory that is handed in.
 ghost use Rattle.std.specs.Prelude.{◌≡◌, ◌+◌, ◌<◌, ◌≤◌, List, length, MatchResult};
+ghost use Rattle.filters.specs.Directives.{named};
 ghost use Rattle.filters.specs.Rules.{Rule, better, linear};
 ghost use Rattle.filters.specs.Orders.{Apart};
 ghost use Rattle.tries.specs.Search.{visits};
 ghost use Rattle.grid.specs.Derived.{Derived};
-ghost use Rattle.grid.specs.Steps.{named};
 ghost use Rattle.grid.specs.Trails.{Trailed};
 ghost use Rattle.grid.specs.declared.trail.TrailFault.TheVariants.{Places};
 ghost use Rattle.grid.specs.Refusals.{trail_number, trail_verdict};
@@ -56,6 +56,6 @@ impl<'m, D: Address, S: Address, C: Cost> Grid<'m, D, S, C> {
         if trail.len() < trail_need::<D, S>() {
             return Err(TrailFault::Places);
         }
-        Ok(self.search_noted(destination, source, trail))
+        Ok(self.lookup(destination, source, trail))
     }
 }

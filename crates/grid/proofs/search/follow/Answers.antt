@@ -1,42 +1,38 @@
-use Rattle.std.proofs.Common.{false, get_or, sym, ◌∙◌, arith}
-use Rattle.grid.specs.Steps.{step_on}
-use Rattle.grid.proofs.Alongs.{along_on, along_stop, along_end, on_inside}
+use Rattle.std.proofs.Common.{◌≡◌, suc, map, length, set, Some, sym, ap, ◌∙◌, arith}
+use Rattle.std.specs.Option.{option_map}
+use Rattle.std.proofs.lemmas.List.Edits.{sets}
+use Rattle.grid.specs.Steps.{along, trace, stepped, visited}
+use Rattle.grid.proofs.Alongs.{along_on, notes_on, lead_inside}
 use Rattle.grid.proofs.search.follow.Goals as goal
 
-pub loop-i-preserved : goal.loop-i-preserved
-loop-i-preserved g c =
+pub visit-walk-requires-in-loop-bit-clause-inside : goal.visit-walk-requires-in-loop-bit-clause-inside
+visit-walk-requires-in-loop-bit-clause-inside g c =
+    lead_inside g.H.Half.leads c.args.nodes.now c.requires.linked g.met.H.Half.inside c.loop-bit.walk.at c.in-Some.bit c.in-Some-next.at c.in-Some-next.ensures
+
+pub loop-bit-preserved : goal.loop-bit-preserved
+loop-bit-preserved g c =
     let N = c.args.nodes.now in
-    let t = g.S.Address.string c.args.source.now in
-    let long = g.met.S.Address.long c.args.source.now in
-    let e = c.in-Some.ensures in
-    let k = on_inside N c.requires.linked c.loop-i.walk c.in-Some.next (get_or t c.loop-i.i false) e in
-    let v = c.loop-i.invariant.1 in (
-      k.0,
+    let step = stepped g.H.Half.leads g.H.Half.keeps N in
+    let w = c.loop-bit.walk in
+    let v = c.visit-walk-in-loop-bit.result in
+    let b = c.in-Some.bit in
+    let r = c.next.new.self in
+    let bits = c.in-Some.ensures.steps in
+    let to = c.visit-walk-in-loop-bit.ensures in
+    let e : Some v ≡ step w b = ap Some to ∙ ap (option_map (visited g.H.Half.leads g.H.Half.keeps N w.kept w.visits)) c.in-Some-next.ensures in
+    let at = ap (λ x. x.at) to in
+    let inside = lead_inside g.H.Half.leads N c.requires.linked g.met.H.Half.inside w.at b c.in-Some-next.at c.in-Some-next.ensures in
+    let one = ap (λ x. x.visits) to in
+    let more = ap length bits in
+    let few = c.loop-bit.invariant.3 in
+    let next : v.visits ≡ suc w.visits = omega arith in (
+      tt,
+      tt,
       omega arith,
-      sym (along_on (step_on N) c.loop-i.walk t c.loop-i.i (omega arith) c.in-Some.next e)
-          ∙ c.loop-i.invariant.2,
+      omega arith,
+      sym (along_on step w b r v e) ∙ ap (along step w) (sym bits) ∙ c.loop-bit.invariant.4,
+      (λ i. sets ((c.note-in-loop-bit.ensures ∙ ap (set c.loop-bit.trail w.visits) (sym at)) i) (next i) (map (λ x. x.at) (trace step v r)))
+          ∙ notes_on step w b r (λ x. x.at) c.loop-bit.trail w.visits v e
+          ∙ ap (λ t. sets c.loop-bit.trail w.visits (map (λ x. x.at) (trace step w t))) (sym bits)
+          ∙ c.loop-bit.invariant.5,
     )
-
-pub returns-in-None : goal.returns-in-None
-returns-in-None g c =
-    let N = c.args.nodes.now in
-    let t = g.S.Address.string c.args.source.now in
-    let long = g.met.S.Address.long c.args.source.now in
-    let v = c.loop-i.invariant.1 in
-    record {
-      end =
-          sym (along_stop (step_on N) c.loop-i.walk t c.loop-i.i (omega arith) c.in-None.ensures)
-          ∙ c.loop-i.invariant.2;
-      few = omega arith;
-    }
-
-pub returns : goal.returns
-returns g c =
-    let N = c.args.nodes.now in
-    let t = g.S.Address.string c.args.source.now in
-    let long = g.met.S.Address.long c.args.source.now in
-    let v = c.loop-i.invariant.1 in
-    record {
-      end = sym (along_end (step_on N) c.loop-i.walk t c.loop-i.i (omega arith)) ∙ c.loop-i.invariant.2;
-      few = omega arith;
-    }

@@ -1,11 +1,17 @@
-use Rattle.std.proofs.Common.{◌≡◌, ◌+◌, ◌<◌, ◌≤◌, length, drop, None}
-use Rattle.grid.specs.Steps.{along, met, step_on}
+use Rattle.std.proofs.Common.{◌≡◌, ◌+◌, ◌<◌, ◌≤◌, map, length, None}
+use Rattle.std.proofs.lemmas.List.Edits.{sets}
+use Rattle.grid.specs.Steps.{along, trace, stepped, visited}
 use Rattle.grid.proofs.search.follow.Given as goal
 
--- the walk is inside the memory, and what is left of the address leads from it to the end of the whole walk
-abbrev pub invariant-loop-i : goal.invariant-loop-i
-invariant-loop-i g l =
-    (l.walk.at < length l.nodes)
-    × (l.walk.visits ≤ 1 + l.i)
-    × (along (step_on l.nodes) l.walk (drop l.i (g.S.Address.string l.source))
-    ≡ along (step_on l.nodes) (met l.nodes None 0 l.root) (g.S.Address.string l.source))
+-- the walk is inside the memory, and the bits that are left lead from it to the end and to the notes of the whole walk
+abbrev pub invariant-loop-bit : goal.invariant-loop-bit
+invariant-loop-bit g l =
+    let step = stepped g.H.Half.leads g.H.Half.keeps l.nodes in
+    let start = visited g.H.Half.leads g.H.Half.keeps l.nodes None l.before l.start in
+    (goal.iterator-loop-bit g).can_next l.bit-iterator
+    × (goal.iterator-loop-bit g).is_finite l.bit-iterator
+    × (l.walk.at < length l.nodes)
+    × (l.walk.visits + length l.bit-iterator ≤ l.before + 1 + g.A.Address.WIDTH)
+    × (along step l.walk l.bit-iterator ≡ along step start (g.A.Address.string l.address))
+    × (sets l.trail l.walk.visits (map (λ v. v.at) (trace step l.walk l.bit-iterator))
+    ≡ sets l.initial.trail (l.before + 1) (map (λ v. v.at) (trace step start (g.A.Address.string l.address))))
