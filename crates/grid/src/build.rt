@@ -74,10 +74,7 @@ fn fill<D: Address, S: Address, C: Cost>(
 impl<'m, D: Address, S: Address, C: Cost> Grid<'m, D, S, C> {
     // Builds the grid of the filters that the records hold. It is refused before the first write where the node places are fewer than
     // so many filters may need, and then nothing changes; else the number of nodes is answered.
-    pub(crate) fn build_from(
-        &mut self,
-        records: &[Record<D, S, C>],
-    ) -> Result<u32, BuildFault>
+    pub(crate) fn build_from(&mut self, records: &[Record<D, S, C>]) -> Result<u32, BuildFault>
         requires { length records.now ≤ 4095 }
         ensures answer { result ≡ (if too_few (length self.old.nodes.now) (length records.now) D.Address.WIDTH S.Address.WIDTH then Err Places else Ok (nodes_of (rules D.Address.spells S.Address.spells C.Written.reads records.now))) }
         ensures count { self.new.used ≡ (if too_few (length self.old.nodes.now) (length records.now) D.Address.WIDTH S.Address.WIDTH then self.old.used else nodes_of (rules D.Address.spells S.Address.spells C.Written.reads records.now)) }

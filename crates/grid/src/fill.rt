@@ -9,8 +9,7 @@ ghost use Rattle.grid.specs.Build.{Safe, Filled};
 
 use crate::insert::insert;
 use crate::node::{Kept, Node};
-use crate::span::span_of;
-use filters::filter::Record;
+use filters::filter::{Prefix, Record};
 use filters::search::standing;
 use kinds::address::Address;
 use kinds::cost::Cost;
@@ -38,8 +37,8 @@ fn insert_record<D: Address, S: Address, C: Cost>(
         standing: rank as u16,
         directive: place.directive,
     };
-    let to = span_of::<D>(place.destination);
-    let from = span_of::<S>(place.source);
+    let to = Prefix::<D>::of(&place.destination);
+    let from = Prefix::<S>::of(&place.source);
     insert(nodes, used, &to, &from, kept);
 }
 

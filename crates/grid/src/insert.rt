@@ -1,13 +1,13 @@
 // The insertion of filters: their paths in the tries, and what they leave at the end of them.
 ghost use Rattle.std.specs.Prelude.{◌≡◌, ◌+◌, ◌^◌, ◌<◌, ◌≤◌, max, true, List, [], length, Some, None, Option};
 ghost use Rattle.kinds.specs.Strings.{Str};
+ghost use Rattle.filters.specs.Meaning.{prefix_of};
 ghost use Rattle.grid.specs.Derived.{Key, key_eq, place};
 ghost use Rattle.grid.specs.Build.{Safe, State, Grown, Inserted, reached, goes, in_trie, above};
-ghost use Rattle.grid.specs.Spans.{spelt};
 
 use crate::edit::Way;
 use crate::node::{Kept, Node};
-use crate::span::Span;
+use filters::filter::Prefix;
 use kinds::address::Address;
 
 // The node that a way leads to from the node at `at`: the one that is there, or a new one at the first place behind.
@@ -53,20 +53,19 @@ fn plant(nodes: &mut [Node], used: &mut u32)
 }
 
 // The node at the end of a path from the root of a trie, made with all on the way to it that is not there.
-fn insert_path<A: Address>(nodes: &mut [Node], used: &mut u32, start: u32, path: &Span<A>) -> u32
+fn insert_path<A: Address>(nodes: &mut [Node], used: &mut u32, start: u32, path: &Prefix<A>) -> u32
     requires safe { Safe used.old nodes.old }
     requires start { start < used.old }
-    requires short { path.now.length ≤ A.Address.WIDTH }
-    requires room { (used.old + path.now.length ≤ length nodes.old) × (used.old + path.now.length < 2 ^ 32) }
+    requires room { (used.old + length (prefix_of A.Address.string path.now) ≤ length nodes.old) × (used.old + length (prefix_of A.Address.string path.now) < 2 ^ 32) }
     ensures safe { Safe used.new nodes.new }
     ensures found { result < used.new }
     ensures least { used.old ≤ used.new }
-    ensures most { used.new ≤ used.old + path.now.length }
-    ensures grid { (own : Str → Str → Option Kept) (keys : List Key) (o : Option Str) → State own keys nodes.old used.old → place (in_trie o []) keys ≡ Some start → Grown own keys (above (in_trie o (spelt A.Address.string path.now))) (in_trie o (spelt A.Address.string path.now)) nodes.new used.new result }
+    ensures most { used.new ≤ used.old + length (prefix_of A.Address.string path.now) }
+    ensures grid { (own : Str → Str → Option Kept) (keys : List Key) (o : Option Str) → State own keys nodes.old used.old → place (in_trie o []) keys ≡ Some start → Grown own keys (above (in_trie o (prefix_of A.Address.string path.now))) (in_trie o (prefix_of A.Address.string path.now)) nodes.new used.new result }
 {
     let mut at = start;
-    for i in 0..path.length {
-        at = extend(nodes, used, at, Way::Down(path.address.bit(i)));
+    for bit in path.bits() {
+        at = extend(nodes, used, at, Way::Down(bit));
     }
     at
 }
@@ -75,16 +74,15 @@ fn insert_path<A: Address>(nodes: &mut [Node], used: &mut u32, start: u32, path:
 pub(crate) fn insert<D: Address, S: Address>(
     nodes: &mut [Node],
     used: &mut u32,
-    to: &Span<D>,
-    from: &Span<S>,
+    to: &Prefix<D>,
+    from: &Prefix<S>,
     kept: Kept,
 )
     requires safe { Safe used.old nodes.old }
-    requires short { (to.now.length ≤ D.Address.WIDTH) × (from.now.length ≤ S.Address.WIDTH) }
     requires room { (max 1 used.old + (D.Address.WIDTH + S.Address.WIDTH + 1) ≤ length nodes.old) × (max 1 used.old + (D.Address.WIDTH + S.Address.WIDTH + 1) < 2 ^ 32) }
     ensures safe { Safe used.new nodes.new }
     ensures most { used.new ≤ max 1 used.old + (D.Address.WIDTH + S.Address.WIDTH + 1) }
-    ensures grid { (own : Str → Str → Option Kept) (keys : List Key) → State own keys nodes.old used.old → Inserted own keys (spelt D.Address.string to.now) (spelt S.Address.string from.now) kept nodes.new used.new }
+    ensures grid { (own : Str → Str → Option Kept) (keys : List Key) → State own keys nodes.old used.old → Inserted own keys (prefix_of D.Address.string to.now) (prefix_of S.Address.string from.now) kept nodes.new used.new }
 {
     plant(nodes, used);
     let leaf = insert_path(nodes, used, 0, to);

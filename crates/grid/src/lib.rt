@@ -10,5 +10,4 @@ mod insert;
 pub mod node;
 mod noting;
 pub mod search;
-mod span;
 pub mod trail;

@@ -1,7 +1,5 @@
 use Rattle.std.proofs.Common.{◌≡◌, ℕ, ◌+◌, ◌-◌, List, ◌++◌, length, take, drop, sym, refl, ap, ◌∙◌, subst, arith}
 use borrow.Rule.Slice.PartMut.{post_of, Post-is}
-use Rattle.kinds.specs.Bits.{length_bits}
-use Rattle.kinds.specs.Strings.{Str}
 use Rattle.filters.specs.Rules.{better}
 use Rattle.filters.specs.Meaning.{rules}
 use Rattle.filters.proofs.Bests.{ranks}
@@ -9,6 +7,7 @@ use Rattle.grid.specs.declared.node.Node.{Node}
 use Rattle.grid.specs.Derived.{Derived}
 use Rattle.grid.specs.Build.{Safe}
 use Rattle.grid.specs.Finish.{finish_below}
+use Rattle.grid.proofs.Spelling.{spells_wide}
 use Rattle.grid.proofs.Built.{emptied, rules_short, built_safe, built_count, built_grid}
 use Rattle.grid.proofs.build.fill.Goals as goal
 
@@ -33,7 +32,7 @@ returns g c =
     let safe = c.insert_all.ensures.safe in
     let fill = c.insert_all.ensures.grid in
     let front = c.finish_all.new.nodes in
-    let wide : (p : g.row.D-Pattern.Denot) → length (D p) ≡ w = λ p. ap (λ (t : Str). length t) (g.met.D.Address.first p) ∙ length_bits w (g.D.Written.number p) in
+    let wide = spells_wide D g.D.Written.number w g.met.D.Address.first in
     let short = rules_short D g.S.Address.spells g.C.Written.reads w wide c.args.records.now in
     let z : u - 0 ≡ u = omega arith in
     let part : take (u - 0) N ≡ take u N = ap (λ (n : ℕ). take n N) z in

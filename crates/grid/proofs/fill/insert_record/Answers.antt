@@ -1,4 +1,4 @@
-use Rattle.std.proofs.Common.{◌≡◌, ltb, List, [], ◌∷◌, ◌++◌, Option, sym, refl, ap, ◌∙◌, subst, inl, arith, rules as goal_rules}
+use Rattle.std.proofs.Common.{◌≡◌, ltb, List, [], ◌∷◌, ◌++◌, take, Option, sym, refl, ap, ◌∙◌, subst, inl, arith, rules as goal_rules}
 use Rattle.std.proofs.lemmas.List.{append-nil}
 use Rattle.kinds.specs.declared.written.PatternFault.TheVariants.{Unlawful}
 use Rattle.kinds.specs.Strings.{Str}
@@ -51,8 +51,8 @@ returns g c =
       most = c.insert.ensures.most;
       grid = λ G sub own fill.
           let ins = c.insert.ensures.grid (own_of lt F G) fill.keys fill.state in
-          let to = c.span_of-to.ensures.string in
-          let from = c.span_of-from.ensures.string in
+          let to : prefix_of g.D.Address.string c.of-to.result ≡ prefix_of D x.destination = λ i. take (c.of-to.ensures.length i) (c.of-to.ensures.string i) in
+          let from : prefix_of g.S.Address.string c.of-from.result ≡ prefix_of S x.source = λ i. take (c.of-from.ensures.length i) (c.of-from.ensures.string i) in
           let k : Kept = record { label = x.label; standing = c.standing-rank.result; directive = x.directive } in
           let kept : k ≡ kept_as lt ord F f = λ i. record { label = x.label; standing = rank i; directive = x.directive } in
           subst (λ (H : List (Rule g.row.C.Denot)). Filled lt F (G ++ H) N u) (sym holds)

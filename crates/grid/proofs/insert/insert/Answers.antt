@@ -2,22 +2,25 @@ use Rattle.std.proofs.Common.{set, Some, None, sym, refl, subst, arith}
 use Rattle.grid.specs.declared.node.Node.{Node}
 use Rattle.grid.specs.Nodes.{node_at}
 use Rattle.grid.specs.Edits.{keep_in}
-use Rattle.grid.specs.Spans.{spelt}
+use Rattle.filters.specs.Meaning.{prefix_of}
 use Rattle.grid.specs.Build.{Safe, Inserted, in_trie}
 use Rattle.grid.proofs.Paths.{inserted}
+use Rattle.grid.proofs.Spelling.{prefix_short}
 use Rattle.grid.proofs.Sound.{sound_at}
 use Rattle.grid.proofs.Safety.{safe_set, links_keep}
 use Rattle.grid.proofs.insert.insert.Goals as goal
 
 pub returns : goal.returns
 returns g c =
-    let D = spelt g.D.Address.string c.args.to.now in
-    let s = spelt g.S.Address.string c.args.from.now in
+    let D = prefix_of g.D.Address.string c.args.to.now in
+    let s = prefix_of g.S.Address.string c.args.from.now in
     let N4 = c.insert_path-end.new.nodes in
     let u4 = c.insert_path-end.new.used in
     let e = c.insert_path-end.result in
     let safe4 = c.insert_path-end.ensures.safe in
     let k = c.keeping.ensures in
+    let a = prefix_short g.D.Address.string g.D.Address.WIDTH g.met.D.Address.long c.args.to.now in
+    let b = prefix_short g.S.Address.string g.S.Address.WIDTH g.met.S.Address.long c.args.from.now in
     record {
       safe = subst (λ (n : Node). Safe u4 (set N4 e n)) (sym k)
           (safe_set u4 N4 e (keep_in (node_at N4 e) c.args.kept) safe4 c.insert_path-end.ensures.found
