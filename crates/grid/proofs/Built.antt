@@ -1,6 +1,6 @@
 -- A build: filters inserted, and the used part finished, make the derived grid.
-use Rattle.std.proofs.Common.{◌≡◌, ℕ, zero, suc, ◌+◌, ◌-◌, ◌<◌, Bool, true, List, [], ◌∷◌, ◌++◌, map, length, take, drop, replicate, Some, None, Option, sym, refl, ap, ◌∙◌, subst, inl, inr, arith}
-use Rattle.std.proofs.lemmas.List.{length-append, length-drop, length-map, length-take, take_at, drop_at, replicate-append-replicate}
+use Rattle.std.proofs.Common.{◌≡◌, ℕ, ◌+◌, ◌-◌, ◌<◌, Bool, true, List, [], ◌∷◌, ◌++◌, map, length, take, drop, replicate, Some, None, Option, sym, ap, ◌∙◌, subst, inl, inr, arith}
+use Rattle.std.proofs.lemmas.List.{length-replicate, length-append, length-drop, length-map, length-take, take_at, drop_at, replicate-append-replicate}
 use Rattle.kinds.specs.Strings.{Str}
 use Rattle.filters.specs.Meaning.{Record}
 use Rattle.filters.specs.Rules.{Rule}
@@ -23,12 +23,8 @@ pub emptied : (u : ℕ) (N M : List Node) → Safe u N → M ≡ replicate u Emp
 emptied u N M s e =
     let all : M ≡ replicate {A = Node} (u + length (drop u N)) Empty =
     e ∙ ap (λ (r : List Node). replicate u Empty ++ r) (bare_is (drop u N) s.rest) ∙ replicate-append-replicate u (length (drop u N)) Empty in
-    let l : length M ≡ u + length (drop u N) = ap length all ∙ length_replicate_of (u + length (drop u N)) in
+    let l : length M ≡ u + length (drop u N) = ap length all ∙ length-replicate {A = Node} (u + length (drop u N)) Empty in
     all ∙ ap (λ (n : ℕ). replicate {A = Node} n Empty) (sym l)
-  where
-    length_replicate_of : (n : ℕ) → length (replicate {A = Node} n Empty) ≡ n
-    length_replicate_of zero = refl
-    length_replicate_of (suc n) = ap suc (length_replicate_of n)
 
 -- no destination has more bits than its kind
 pub rules_short : {D S P C : Type 0} (dst : D → Str) (src : S → Str) (reads : P → Option C) (w : ℕ) → ((p : D) → length (dst p) ≡ w)

@@ -1,7 +1,7 @@
 -- Insertion along a string, at its end, and of a whole filter.
 use Rattle.std.proofs.Common.{◌≡◌, ℕ, suc, ◌-◌, ◌<◌, Bool, true, false, ◌&&◌, ◌||◌, ◌⊎◌, List, [], ◌∷◌, ◌++◌, map, length, set, replicate, Some, None, Option, sym, refl, ap, ◌∙◌, subst, inl, inr, arith}
 use mathlib.Core.Bool.{beq}
-use Rattle.std.proofs.lemmas.List.{length-map, length-set, set-append_left}
+use Rattle.std.proofs.lemmas.List.{nil_from_length, length-map, length-set, set-append_left}
 use Rattle.std.proofs.lemmas.Bool.{both_ways, and_from, or_cases, or_left, cond-true, cond-false}
 use Rattle.kinds.specs.Strings.{Str, starts, equal, snoc}
 use Rattle.kinds.proofs.Prefixes.{equal_refl}
@@ -98,10 +98,6 @@ pub root_first : (keys : List Key) → Rooted keys → 0 < length keys → place
 root_first [] r h = absurd (omega arith)
 root_first (k ∷ ks) r h = place_first (destination []) k ks (same_key_lem (destination []) k (sym r))
 
-no_keys : (keys : List Key) → length keys ≡ 0 → keys ≡ []
-no_keys [] e = refl
-no_keys (k ∷ ks) e = absurd (omega arith)
-
 -- the root of memory that has one
 pub plant_there : (own : Str → Str → Option Kept) (keys : List Key) (N : List Node) (used : ℕ) → State own keys N used → 0 < used
     → Grown own keys (λ l. key_eq l (in_trie None [])) (in_trie None []) N used 0
@@ -132,7 +128,7 @@ plant_new own keys N used st z h =
     root = destination []
 
     none : keys ≡ []
-    none = let e = st.long in no_keys keys (omega arith)
+    none = let e = st.long in nil_from_length keys (omega arith)
 
     closed : (k : Key) (w : Way) → goes k w ≡ true → any (key_eq (reached k w)) (root ∷ []) ≡ true → any (key_eq k) (root ∷ []) ≡ true
     closed (destination t) (Down b) g e = absurd (snoc_root t b (or_cases (equal (snoc t b) []) false e))

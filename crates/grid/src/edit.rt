@@ -15,10 +15,7 @@ pub(crate) enum Way {
 fn switch_beside(child: Option<u32>, to: Option<u32>) -> Option<u32>
     ensures { result ≡ switched child to }
 {
-    match child {
-        Some(_) => None,
-        None => to,
-    }
+    if child.is_some() { None } else { to }
 }
 
 impl Node {

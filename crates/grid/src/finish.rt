@@ -15,21 +15,14 @@ use kinds::cost::Cost;
 fn look(nodes: &[Node], at: u32) -> Node
     ensures { result ≡ node_at nodes.now at }
 {
-    if (at as usize) < nodes.len() {
-        nodes[at as usize]
-    } else {
-        Node::Empty
-    }
+    nodes.get(at as usize).copied().unwrap_or(Node::Empty)
 }
 
 // The node at a place, where there is a place.
 fn look_if(nodes: &[Node], at: Option<u32>) -> Node
     ensures { result ≡ node_if nodes.now at }
 {
-    match at {
-        Some(at) => look(nodes, at),
-        None => Node::Empty,
-    }
+    at.map_or(Node::Empty, |at| look(nodes, at))
 }
 
 // The place of the child by a bit, or the place itself where there is no child.
@@ -149,7 +142,7 @@ pub(crate) fn finish_all<D: Address, S: Address, C: Cost>(
 )
     ensures { nodes.new ≡ finish_below (D.Address.WIDTH + 1) nodes.old (rules D.Address.spells S.Address.spells C.Written.reads records.now) }
 {
-    for size in 0..D::WIDTH + 1 {
+    for size in 0..=D::WIDTH {
         finish_length::<D, S, C>(nodes, records, size);
     }
 }

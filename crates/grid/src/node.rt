@@ -70,10 +70,7 @@ impl Node {
     pub(crate) fn next(self, bit: bool) -> Option<u32>
         ensures { result ≡ next_of self bit }
     {
-        match self.child(bit) {
-            Some(at) => Some(at),
-            None => self.switch_to(bit),
-        }
+        self.child(bit).or(self.switch_to(bit))
     }
 
     // The root of the source trie that a destination node leads to.
@@ -102,12 +99,11 @@ pub(crate) fn pick_kept(first: Option<Kept>, second: Option<Kept>) -> Option<Kep
     ensures { result ≡ pick_kept first second }
 {
     match (first, second) {
-        (None, other) => other,
-        (Some(one), None) => Some(one),
-        (Some(one), Some(other)) => if other.standing < one.standing {
-            Some(other)
+        (Some(one), Some(other)) => Some(if other.standing < one.standing {
+            other
         } else {
-            Some(one)
-        },
+            one
+        }),
+        _ => first.or(second),
     }
 }
