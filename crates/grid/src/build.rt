@@ -1,19 +1,17 @@
 // The building of the grid: the places used so far are emptied, all filters are inserted, and the nodes are finished.
-ghost use Rattle.std.specs.Prelude.{◌≡◌, ◌≤◌, true, false, length, take, if◌then◌else◌, Ok, Err, MatchResult};
+ghost use Rattle.std.specs.Prelude.{◌≡◌, ◌≤◌, true, false, length, take, replicate, if◌then◌else◌, Ok, Err, MatchResult};
 ghost use Rattle.book.specs.Books.{after};
 ghost use Rattle.filters.specs.Rules.{better};
 ghost use Rattle.filters.specs.Meaning.{rules};
 ghost use Rattle.filters.specs.Orders.{Apart};
 ghost use Rattle.tries.specs.Shape.{need, nodes as nodes_of};
 ghost use Rattle.grid.specs.Derived.{Derived};
-ghost use Rattle.grid.specs.Build.{Safe};
+ghost use Rattle.grid.specs.declared.node.Node.TheVariants.{Empty};
 ghost use Rattle.grid.specs.declared.build.BuildFault.TheVariants.{Places};
 ghost use Rattle.grid.specs.Refusals.{build_number, too_few};
 
-use crate::fill::insert_all;
-use crate::finish::finish_all;
+use crate::finish::finish_first;
 use crate::grid::{Grid, empty_first};
-use crate::node::Node;
 use book::book::Book;
 use filters::filter::Record;
 use kinds::address::Address;
@@ -49,29 +47,33 @@ fn places_needed<D: Address, S: Address>(count: usize) -> usize
     1 + count * bits
 }
 
-// Builds the grid of the filters that the records hold, in memory that has places enough. It answers the number of nodes.
-fn fill<D: Address, S: Address, C: Cost>(
-    nodes: &mut [Node],
-    used: &mut u32,
-    records: &[Record<D, S, C>],
-) -> u32
-    requires safe { Safe used.old nodes.old }
-    requires few { length records.now ≤ 4095 }
-    requires room { need (length records.now) D.Address.WIDTH S.Address.WIDTH ≤ length nodes.old }
-    ensures safe { Safe used.new nodes.new }
-    ensures answer { result ≡ used.new }
-    ensures count { used.new ≡ nodes_of (rules D.Address.spells S.Address.spells C.Written.reads records.now) }
-    ensures grid { Apart (rules D.Address.spells S.Address.spells C.Written.reads records.now) → Derived (better C.Cost.order) (rules D.Address.spells S.Address.spells C.Written.reads records.now) nodes.new used.new }
-{
-    empty_first(nodes, *used as usize);
-    *used = 0;
-    insert_all::<D, S, C>(nodes, used, records);
-    let count = *used as usize;
-    finish_all::<D, S, C>(&mut nodes[0..count], records);
-    *used
-}
-
 impl<'m, D: Address, S: Address, C: Cost> Grid<'m, D, S, C> {
+    // Empties the grid.
+    fn clear(&mut self)
+        ensures count { self.new.used ≡ 0 }
+        ensures memory { self.new.nodes.now ≡ replicate (length self.old.nodes.now) Empty }
+    {
+        let Grid { nodes, used, .. } = self;
+        empty_first(nodes, *used as usize);
+        *used = 0;
+    }
+
+    // Builds the grid of the filters that the records hold, in memory that has places enough. It answers the number of nodes.
+    fn fill(&mut self, records: &[Record<D, S, C>]) -> u32
+        requires few { length records.now ≤ 4095 }
+        requires room { need (length records.now) D.Address.WIDTH S.Address.WIDTH ≤ length self.old.nodes.now }
+        ensures answer { result ≡ self.new.used }
+        ensures count { self.new.used ≡ nodes_of (rules D.Address.spells S.Address.spells C.Written.reads records.now) }
+        ensures places { length self.new.nodes.now ≡ length self.old.nodes.now }
+        ensures grid { Apart (rules D.Address.spells S.Address.spells C.Written.reads records.now) → Derived (better C.Cost.order) (rules D.Address.spells S.Address.spells C.Written.reads records.now) self.new.nodes.now self.new.used }
+    {
+        self.clear();
+        self.insert_all(records);
+        let Grid { nodes, used, .. } = self;
+        finish_first::<D, S, C>(nodes, *used as usize, records);
+        *used
+    }
+
     // Builds the grid of the filters that the records hold. It is refused before the first write where the node places are fewer than
     // so many filters may need, and then nothing changes; else the number of nodes is answered.
     pub(crate) fn build_from(&mut self, records: &[Record<D, S, C>]) -> Result<u32, BuildFault>
@@ -86,12 +88,9 @@ impl<'m, D: Address, S: Address, C: Cost> Grid<'m, D, S, C> {
         if self.nodes.len() < needed {
             return Err(BuildFault::Places);
         }
-        let Grid { nodes, used, .. } = self;
-        Ok(fill::<D, S, C>(nodes, used, records))
+        Ok(self.fill(records))
     }
-}
 
-impl<'m, D: Address, S: Address, C: Cost> Grid<'m, D, S, C> {
     // Builds the grid of the book's filters, and answers how many nodes it uses; the book stays as found. Where the node places
     // are fewer than so many filters may need it is refused before the first write.
     pub fn build(&mut self, book: &Book<D, S, C>) -> Result<u32, BuildFault>

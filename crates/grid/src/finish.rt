@@ -1,6 +1,6 @@
 // The finishing of nodes: switches, and the best of what is kept. Each source path is walked with two places: the node to finish, and
 // the node beside it, which is that of the same source string at the longest shorter destination that has one.
-ghost use Rattle.std.specs.Prelude.{◌≡◌, ◌+◌, ◌≤◌, length, None, slice_set};
+ghost use Rattle.std.specs.Prelude.{◌≡◌, ◌+◌, ◌≤◌, ◌++◌, length, take, drop, None, slice_set};
 ghost use Rattle.filters.specs.Meaning.{prefix_of, rules, held};
 ghost use Rattle.grid.specs.Nodes.{node_at, kept_of};
 ghost use Rattle.grid.specs.Edits.{finish_in};
@@ -136,13 +136,22 @@ fn finish_length<D: Address, S: Address, C: Cost>(
 }
 
 // Finishes all filters, the shorter destinations first.
-pub(crate) fn finish_all<D: Address, S: Address, C: Cost>(
-    nodes: &mut [Node],
-    records: &[Record<D, S, C>],
-)
+fn finish_all<D: Address, S: Address, C: Cost>(nodes: &mut [Node], records: &[Record<D, S, C>])
     ensures { nodes.new ≡ finish_below (D.Address.WIDTH + 1) nodes.old (rules D.Address.spells S.Address.spells C.Written.reads records.now) }
 {
     for size in 0..=D::WIDTH {
         finish_length::<D, S, C>(nodes, records, size);
     }
+}
+
+// Finishes all filters in the first `count` places.
+pub(crate) fn finish_first<D: Address, S: Address, C: Cost>(
+    nodes: &mut [Node],
+    count: usize,
+    records: &[Record<D, S, C>],
+)
+    requires { count ≤ length nodes.old }
+    ensures { nodes.new ≡ finish_below (D.Address.WIDTH + 1) (take count nodes.old) (rules D.Address.spells S.Address.spells C.Written.reads records.now) ++ drop count nodes.old }
+{
+    finish_all::<D, S, C>(&mut nodes[..count], records);
 }
