@@ -41,10 +41,10 @@ fn places_needed<D: Address, S: Address>(count: usize) -> usize
     ensures { result ≡ need count D.Address.WIDTH S.Address.WIDTH }
 {
     if count == 0 {
-        return 0;
+        0
+    } else {
+        1 + count * (D::WIDTH + S::WIDTH + 1) as usize
     }
-    let bits = (D::WIDTH + S::WIDTH + 1) as usize;
-    1 + count * bits
 }
 
 impl<'m, D: Address, S: Address, C: Cost> Grid<'m, D, S, C> {
@@ -74,23 +74,6 @@ impl<'m, D: Address, S: Address, C: Cost> Grid<'m, D, S, C> {
         *used
     }
 
-    // Builds the grid of the filters that the records hold. It is refused before the first write where the node places are fewer than
-    // so many filters may need, and then nothing changes; else the number of nodes is answered.
-    pub(crate) fn build_from(&mut self, records: &[Record<D, S, C>]) -> Result<u32, BuildFault>
-        requires { length records.now ≤ 4095 }
-        ensures answer { result ≡ (if too_few (length self.old.nodes.now) (length records.now) D.Address.WIDTH S.Address.WIDTH then Err Places else Ok (nodes_of (rules D.Address.spells S.Address.spells C.Written.reads records.now))) }
-        ensures count { self.new.used ≡ (if too_few (length self.old.nodes.now) (length records.now) D.Address.WIDTH S.Address.WIDTH then self.old.used else nodes_of (rules D.Address.spells S.Address.spells C.Written.reads records.now)) }
-        ensures places { length self.new.nodes.now ≡ length self.old.nodes.now }
-        ensures same { too_few (length self.old.nodes.now) (length records.now) D.Address.WIDTH S.Address.WIDTH ≡ true → self.new.nodes.now ≡ self.old.nodes.now }
-        ensures grid { too_few (length self.old.nodes.now) (length records.now) D.Address.WIDTH S.Address.WIDTH ≡ false → Apart (rules D.Address.spells S.Address.spells C.Written.reads records.now) → Derived (better C.Cost.order) (rules D.Address.spells S.Address.spells C.Written.reads records.now) self.new.nodes.now self.new.used }
-    {
-        let needed = places_needed::<D, S>(records.len());
-        if self.nodes.len() < needed {
-            return Err(BuildFault::Places);
-        }
-        Ok(self.fill(records))
-    }
-
     // Builds the grid of the book's filters, and answers how many nodes it uses; the book stays as found. Where the node places
     // are fewer than so many filters may need it is refused before the first write.
     pub fn build(&mut self, book: &Book<D, S, C>) -> Result<u32, BuildFault>
@@ -99,6 +82,10 @@ impl<'m, D: Address, S: Address, C: Cost> Grid<'m, D, S, C> {
         ensures places { length self.new.nodes.now ≡ length self.old.nodes.now }
         ensures memory { MatchResult result (λ _. Derived (better C.Cost.order) (rules D.Address.spells S.Address.spells C.Written.reads (take book.now.used book.now.places.now)) self.new.nodes.now self.new.used) (λ _. self.new.nodes.now ≡ self.old.nodes.now) }
     {
-        self.build_from(book.records())
+        let records = book.records();
+        if self.nodes.len() < places_needed::<D, S>(records.len()) {
+            return Err(BuildFault::Places);
+        }
+        Ok(self.fill(records))
     }
 }

@@ -70,7 +70,7 @@ impl Node {
     pub(crate) fn next(self, bit: bool) -> Option<u32>
         ensures { result ≡ next_of self bit }
     {
-        self.child(bit).or(self.switch_to(bit))
+        self.child(bit).or_else(|| self.switch_to(bit))
     }
 
     // The root of the source trie that a destination node leads to.
@@ -99,11 +99,8 @@ pub(crate) fn pick_kept(first: Option<Kept>, second: Option<Kept>) -> Option<Kep
     ensures { result ≡ pick_kept first second }
 {
     match (first, second) {
-        (Some(one), Some(other)) => Some(if other.standing < one.standing {
-            other
-        } else {
-            one
-        }),
-        _ => first.or(second),
+        (None, other) => other,
+        (Some(one), Some(other)) if other.standing < one.standing => second,
+        _ => first,
     }
 }
