@@ -11,9 +11,10 @@ use Rattle.tries.specs.Shape.{has_src}
 use Rattle.tries.specs.Search.{kept}
 use Rattle.tries.proofs.Finds.{src_front}
 use Rattle.grid.specs.declared.node.Kept.{Kept}
+use Rattle.grid.specs.declared.node.Links.{Links}
 use Rattle.grid.specs.declared.node.Node.{Node}
 use Rattle.grid.specs.declared.node.Node.TheVariants.{Empty, Source}
-use Rattle.grid.specs.Nodes.{node_at, child_of, next_of, kept_of, pick_kept}
+use Rattle.grid.specs.Nodes.{links_of, no_links, node_at, child_of, next_of, kept_of, pick_kept}
 use Rattle.grid.specs.Edits.{switched, finish_in}
 use Rattle.grid.specs.Derived.{Key, destination, source, key_eq, is_key, place, place_of, once, switch_place, keep, node_of}
 use Rattle.grid.specs.Build.{raw, exactly, own_of}
@@ -85,21 +86,21 @@ module _ {C : Type 0} (lt : Rule C → Rule C → Bool) (ord : Order lt) (F : Li
   kept_for s (Some A) = refl
 
   -- a source node with its children, whatever its switches were, is finished to what it should be
-  finish_any : (D s : Str) (x y : Option ℕ) (e a : Option (Rule C)) → Before lt ord F apart D s e → Over lt ord F apart D s a
-      → finish_in (Source (place (source D (snoc s false)) keys) (place (source D (snoc s true)) keys) x y (keep lt F e)) (beside_of D s) (keep lt F a) ≡ node_of lt F keys (source D s)
-  finish_any D s x y e a before over =
+  finish_any : (D s : Str) (x : Links) (e a : Option (Rule C)) → Before lt ord F apart D s e → Over lt ord F apart D s a
+      → finish_in (Source (links_of (λ b. place (source D (snoc s b)) keys)) x (keep lt F e)) (beside_of D s) (keep lt F a) ≡ node_of lt F keys (source D s)
+  finish_any D s x e a before over =
       let z = switch_is D s false in
       let o = switch_is D s true in
       let k = ap (λ (q : Option Kept). pick_kept (pick_kept (keep lt F e) (keep lt F a)) q) (kept_for s (longest_proper (λ A. has_src F A s) D)) ∙ kept_finish lt ord F apart D s e a before over in
-      λ i. Source (place (source D (snoc s false)) keys) (place (source D (snoc s true)) keys) (z i) (o i) (k i)
+      λ i. Source (links_of (λ b. place (source D (snoc s b)) keys)) (record { zero = z i; one = o i }) (k i)
 
   finish_mixed : (done : Str → Str → Bool) (D s : Str) (a : Option (Rule C)) → Over lt ord F apart D s a
       → finish_in (mixed done (source D s)) (beside_of D s) (keep lt F a) ≡ node_of lt F keys (source D s)
   finish_mixed done D s a over = go (done D s)
     where
       go : (x : Bool) → finish_in (cond x (node_of lt F keys (source D s)) (raw (own_of lt F F) keys (source D s))) (beside_of D s) (keep lt F a) ≡ node_of lt F keys (source D s)
-      go true = finish_any D s (switch_place F keys D s false) (switch_place F keys D s true) (kept lt F (D, s)) a (inr refl) over
-      go false = finish_any D s None None (best lt (exactly D s) F) a (inl refl) over
+      go true = finish_any D s (links_of (switch_place F keys D s)) (kept lt F (D, s)) a (inr refl) over
+      go false = finish_any D s no_links (best lt (exactly D s) F) a (inl refl) over
 
   -- ---- one node more
 

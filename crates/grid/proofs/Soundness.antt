@@ -82,5 +82,5 @@ module _ (u : ℕ) where
 pub bare_is : (N : List Node) → bare N ≡ true → N ≡ replicate (length N) Empty
 bare_is [] h = refl
 bare_is (Empty ∷ N) h = ap {B = List Node} (λ r. Empty ∷ r) (bare_is N h)
-bare_is (Destination z o r ∷ N) h = absurd (both_ways false refl h)
-bare_is (Source z o x y k ∷ N) h = absurd (both_ways false refl h)
+bare_is (Destination c r ∷ N) h = absurd (both_ways false refl h)
+bare_is (Source c x k ∷ N) h = absurd (both_ways false refl h)

@@ -7,7 +7,7 @@ ghost use Rattle.grid.specs.Build.{State, Grown, Inserted, reached, goes, in_tri
 
 use crate::edit::Way;
 use crate::grid::Grid;
-use crate::node::{Kept, Node};
+use crate::node::{Kept, Links, Node};
 use filters::filter::Prefix;
 use kinds::address::Address;
 use kinds::cost::Cost;
@@ -47,8 +47,7 @@ impl<'m, D: Address, S: Address, C: Cost> Grid<'m, D, S, C> {
         let Grid { nodes, used, .. } = self;
         if *used == 0 {
             nodes[0] = Node::Destination {
-                zero: None,
-                one: None,
+                children: Links::NONE,
                 source: None,
             };
             *used = 1;
