@@ -1,5 +1,5 @@
 -- A build: filters inserted, and the used part finished, make the derived grid.
-use Rattle.std.proofs.Common.{◌≡◌, ℕ, zero, suc, ◌+◌, ◌-◌, ◌<◌, Bool, true, List, [], ◌∷◌, ◌++◌, map, length, take, drop, replicate, Some, None, Option, sym, refl, ap, ◌∙◌, subst, inl, inr, arith}
+use Rattle.std.proofs.Common.{◌≡◌, ℕ, ◌+◌, ◌-◌, ◌<◌, ◌≤◌, Bool, true, List, [], ◌∷◌, ◌++◌, map, length, take, drop, replicate, Some, None, Option, sym, ap, ◌∙◌, subst, inl, inr, arith}
 use Rattle.std.proofs.lemmas.List.{length-append, length-drop, length-map, length-take, take_at, drop_at, replicate-append-replicate}
 use Rattle.kinds.specs.Strings.{Str}
 use Rattle.filters.specs.Meaning.{Record}
@@ -9,7 +9,7 @@ use Rattle.filters.specs.Orders.{In, Apart, Order}
 use Rattle.tries.specs.Shape.{nodes as nodes_of}
 use Rattle.grid.specs.declared.node.Node.{Node}
 use Rattle.grid.specs.declared.node.Node.TheVariants.{Empty}
-use Rattle.grid.specs.Nodes.{sound}
+use Rattle.grid.specs.Nodes.{bare}
 use Rattle.grid.specs.Derived.{node_of, Derived}
 use Rattle.grid.specs.Build.{Safe, raw, own_of, Filled}
 use Rattle.grid.specs.Finish.{finish_below}
@@ -19,16 +19,12 @@ use Rattle.grid.proofs.Counts.{keys_count}
 use Rattle.grid.proofs.Soundness.{sound_below, sound_take, safe_front, bare_is}
 
 -- emptying the used places empties all
-pub emptied : (u : ℕ) (N M : List Node) → Safe u N → M ≡ replicate u Empty ++ drop u N → M ≡ replicate (length M) Empty
-emptied u N M s e =
-    let all : M ≡ replicate {A = Node} (u + length (drop u N)) Empty =
-    e ∙ ap (λ (r : List Node). replicate u Empty ++ r) (bare_is (drop u N) s.rest) ∙ replicate-append-replicate u (length (drop u N)) Empty in
-    let l : length M ≡ u + length (drop u N) = ap length all ∙ length_replicate_of (u + length (drop u N)) in
-    all ∙ ap (λ (n : ℕ). replicate {A = Node} n Empty) (sym l)
-  where
-    length_replicate_of : (n : ℕ) → length (replicate {A = Node} n Empty) ≡ n
-    length_replicate_of zero = refl
-    length_replicate_of (suc n) = ap suc (length_replicate_of n)
+pub emptied : (u : ℕ) (N M : List Node) → u ≤ length N → bare (drop u N) ≡ true → M ≡ replicate u Empty ++ drop u N → M ≡ replicate (length N) Empty
+emptied u N M fits rest e =
+    let l = length-drop u N in
+    let n : u + length (drop u N) ≡ length N = omega arith in
+    e ∙ ap (λ (r : List Node). replicate u Empty ++ r) (bare_is (drop u N) rest) ∙ replicate-append-replicate u (length (drop u N)) Empty
+    ∙ ap (λ (m : ℕ). replicate {A = Node} m Empty) n
 
 -- no destination has more bits than its kind
 pub rules_short : {D S P C : Type 0} (dst : D → Str) (src : S → Str) (reads : P → Option C) (w : ℕ) → ((p : D) → length (dst p) ≡ w)
@@ -49,17 +45,22 @@ rules_short {D} {S} {P} {C} dst src reads w wide (x ∷ xs) f h =
         omega arith
     at (Some c) (inr i) = absurd i
 
--- the used part, finished, before the rest as it was
-module _ {C : Type 0} (lt : Rule C → Rule C → Bool) (ord : Order lt) (F : List (Rule C)) (N : List Node) (used : ℕ) (safe : Safe used N) (fill : Filled lt F F N used)
-    (n : ℕ) (short : (f : Rule C) → In f F → length f.destination < n) (front : List Node) (long : length front ≡ length (take used N))
-    (is : front ≡ finish_below n (take used N) F) where
-  front_long : length front ≡ used
-  front_long = let a = length-take used N in let b = safe.fits in omega arith
+-- the memory M has the used part of N, finished, before the rest as it was
+module _ {C : Type 0} (lt : Rule C → Rule C → Bool) (ord : Order lt) (F : List (Rule C)) (N M : List Node) (used : ℕ) (safe : Safe used N) (fill : Filled lt F F N used)
+    (n : ℕ) (short : (f : Rule C) → In f F → length f.destination < n) (same : length M ≡ length N)
+    (is : M ≡ finish_below n (take used N) F ++ drop used N) where
+  front_long : length (finish_below n (take used N) F) ≡ used
+  front_long =
+      let a = length-append (finish_below n (take used N) F) (drop used N) in
+      let b = length-drop used N in
+      let c = safe.fits in
+      let d = ap (λ (x : List Node). length x) is in
+      omega arith
 
-  pub built_safe : Safe used (front ++ drop used N)
+  pub built_safe : Safe used M
   built_safe =
-      safe_front used N front safe front_long
-      (subst (λ (M : List Node). sound used M ≡ true) (sym is) (sound_below used n F (take used N) (sound_take used used N safe.linked)))
+      subst (λ (x : List Node). Safe used x) (sym is)
+      (safe_front used N (finish_below n (take used N) F) safe front_long (sound_below used n F (take used N) (sound_take used used N safe.linked)))
 
   pub built_count : used ≡ nodes_of F
   built_count = sym fill.state.long ∙ keys_count F fill.keys fill.state.distinct fill.whole
@@ -74,7 +75,7 @@ module _ {C : Type 0} (lt : Rule C → Rule C → Bool) (ord : Order lt) (F : Li
       ap (take used) fill.state.nodes
       ∙ take_at (map (raw (own_of lt F F) fill.keys) fill.keys) (replicate (length N - used) Empty) used (length-map fill.keys (raw (own_of lt F F) fill.keys) ∙ fill.state.long)
 
-  pub built_grid : Apart F → Derived lt F (front ++ drop used N) used
+  pub built_grid : Apart F → Derived lt F M used
   built_grid apart =
       record {
         keys = fill.keys;
@@ -83,14 +84,8 @@ module _ {C : Type 0} (lt : Rule C → Rule C → Bool) (ord : Order lt) (F : Li
         whole = fill.whole;
         rooted = fill.state.rooted;
         nodes =
-            ap (λ (M : List Node). M ++ drop used N) (is ∙ all_done lt ord F apart fill.keys fill.state.distinct fill.whole fill.state.rooted n short (take used N) front_is)
-            ∙ ap (λ (M : List Node). map (node_of lt F fill.keys) fill.keys ++ M) rest_is
-            ∙ ap (λ (k : ℕ). map (node_of lt F fill.keys) fill.keys ++ replicate k Empty) same;
+            is
+            ∙ ap (λ (x : List Node). x ++ drop used N) (all_done lt ord F apart fill.keys fill.state.distinct fill.whole fill.state.rooted n short (take used N) front_is)
+            ∙ ap (λ (x : List Node). map (node_of lt F fill.keys) fill.keys ++ x) rest_is
+            ∙ ap (λ (k : ℕ). map (node_of lt F fill.keys) fill.keys ++ replicate (k - used) Empty) (sym same);
       }
-    where
-      same : length N - used ≡ length (front ++ drop used N) - used
-      same =
-          let a = length-append front (drop used N) in
-          let b = length-drop used N in
-          let c = front_long in
-          omega arith

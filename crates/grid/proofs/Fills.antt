@@ -14,6 +14,7 @@ use Rattle.filters.proofs.Bests.{best_from}
 use Rattle.filters.proofs.Reading.{scan_append, rules_append}
 use Rattle.tries.proofs.Same.{same_bool}
 use Rattle.tries.proofs.Standings.{standing_ranks}
+use Rattle.tries.proofs.Same.{in_append_left, in_append_right}
 use Rattle.grid.specs.declared.node.Kept.{Kept}
 use Rattle.grid.specs.declared.node.Node.{Node}
 use Rattle.grid.specs.declared.node.Node.TheVariants.{Empty}
@@ -23,16 +24,7 @@ use Rattle.grid.specs.Build.{State, keeping, on_paths, Inserted, exactly, own_of
 use Rattle.grid.proofs.Ranks.{From}
 use Rattle.grid.proofs.Numbering.{any_push, or_none}
 
--- ---- members of lists one behind the other
-
-pub in_left : {A : Type 0} (x : A) (xs ys : List A) → In x xs → In x (xs ++ ys)
-in_left x [] ys h = absurd h
-in_left x (y ∷ xs) ys (inl e) = inl e
-in_left x (y ∷ xs) ys (inr h) = inr (in_left x xs ys h)
-
-pub in_right : {A : Type 0} (x : A) (xs ys : List A) → In x ys → In x (xs ++ ys)
-in_right x [] ys h = h
-in_right x (y ∷ xs) ys h = inr (in_right x xs ys h)
+-- ---- members of two lists one behind the other
 
 pub in_either : {A : Type 0} (x : A) (xs ys : List A) → In x (xs ++ ys) → In x xs ⊎ In x ys
 in_either x [] ys h = inr h
@@ -76,13 +68,13 @@ module _ {D S P C : Type 0} (dst : D → Str) (src : S → Str) (reads : P → O
   -- the rules of the first places are among all
   pub rules_front : (i : ℕ) (xs : List (Record D S P)) (f : Rule C) → In f (rules dst src reads (take i xs)) → In f (rules dst src reads xs)
   rules_front i xs f h =
-      subst (λ (G : List (Rule C)). In f G) (rules_split i xs) (in_left f (rules dst src reads (take i xs)) (rules dst src reads (drop i xs)) h)
+      subst (λ (G : List (Rule C)). In f G) (rules_split i xs) (in_append_left f (rules dst src reads (take i xs)) (rules dst src reads (drop i xs)) h)
 
   -- and so is that of a place
   pub rules_item : (xs : List (Record D S P)) (i : ℕ) (x : Record D S P) → i < length xs → x ≡ get_or xs i x → (f : Rule C) → In f (held dst src reads x) → In f (rules dst src reads xs)
   rules_item xs i x h e f k =
       rules_front (i + 1) xs f
-      (subst (λ (G : List (Rule C)). In f G) (sym (rules_more xs i x h e)) (in_right f (rules dst src reads (take i xs)) (held dst src reads x) k))
+      (subst (λ (G : List (Rule C)). In f G) (sym (rules_more xs i x h e)) (in_append_right f (rules dst src reads (take i xs)) (held dst src reads x) k))
 
 -- ---- the smaller standing is the better filter
 module _ {C : Type 0} (lt : Rule C → Rule C → Bool) (ord : Order lt) (F : List (Rule C)) where

@@ -14,7 +14,8 @@ use Rattle.grid.specs.declared.node.Node.{Node}
 use Rattle.grid.specs.Nodes.{node_at, child_of, root_of}
 use Rattle.grid.specs.Derived.{Key, destination, source, key_eq, is_key, place, place_of, once, Rooted, node_of}
 use Rattle.grid.specs.Build.{raw, own_of}
-use Rattle.grid.specs.Finish.{node_if, child_from, roots, Trek, finish_at, trek_on, trek, finish_from, finish_path, finish_length, finish_below}
+use Rattle.grid.specs.declared.finish.Trek.{Trek}
+use Rattle.grid.specs.Finish.{node_if, child_from, roots, finish_at, trek_on, trek, finish_from, finish_path, finish_length, finish_below}
 use Rattle.grid.proofs.Places.{place_has, place_none}
 use Rattle.grid.proofs.Numbering.{map_same}
 use Rattle.grid.proofs.Paths.{root_first}
@@ -29,7 +30,7 @@ module _ {C : Type 0} (lt : Rule C → Rule C → Bool) (ord : Order lt) (F : Li
 
   -- ---- a whole source path
 
-  trek_all : (done : Str → Str → Bool) (D r s : Str) (t : Trek) → Ready lt ord F apart keys distinct whole done D → has_src F D (s ++ r) ≡ true
+  trek_all : (done : Str → Str → Bool) (D r s : Str) (t : List Node × Trek) → Ready lt ord F apart keys distinct whole done D → has_src F D (s ++ r) ≡ true
       → On lt ord F apart keys distinct whole done D s t → On lt ord F apart keys distinct whole done D (s ++ r) (trek t r)
   trek_all done D [] s t ready has on = subst (λ (x : Str). On lt ord F apart keys distinct whole done D x t) (sym (append-nil s)) on
   trek_all done D (b ∷ r) s t ready has on =

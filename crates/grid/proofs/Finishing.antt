@@ -11,13 +11,15 @@ use Rattle.tries.specs.Shape.{has_src}
 use Rattle.tries.specs.Search.{kept}
 use Rattle.tries.proofs.Finds.{src_front}
 use Rattle.grid.specs.declared.node.Kept.{Kept}
+use Rattle.grid.specs.declared.node.Links.{Links}
 use Rattle.grid.specs.declared.node.Node.{Node}
 use Rattle.grid.specs.declared.node.Node.TheVariants.{Empty, Source}
-use Rattle.grid.specs.Nodes.{node_at, child_of, next_of, kept_of, pick_kept}
+use Rattle.grid.specs.Nodes.{links_of, no_links, node_at, child_of, next_of, kept_of, pick_kept}
 use Rattle.grid.specs.Edits.{switched, finish_in}
 use Rattle.grid.specs.Derived.{Key, destination, source, key_eq, is_key, place, place_of, once, switch_place, keep, node_of}
 use Rattle.grid.specs.Build.{raw, exactly, own_of}
-use Rattle.grid.specs.Finish.{node_if, child_from, Trek, finish_at, trek_on}
+use Rattle.grid.specs.declared.finish.Trek.{Trek}
+use Rattle.grid.specs.Finish.{node_if, child_from, finish_at, trek_on}
 use Rattle.grid.proofs.Places.{place_has, place_none, node_at_lem}
 use Rattle.grid.proofs.Numbering.{set_map}
 use Rattle.grid.proofs.Walks.{leads}
@@ -84,21 +86,21 @@ module _ {C : Type 0} (lt : Rule C → Rule C → Bool) (ord : Order lt) (F : Li
   kept_for s (Some A) = refl
 
   -- a source node with its children, whatever its switches were, is finished to what it should be
-  finish_any : (D s : Str) (x y : Option ℕ) (e a : Option (Rule C)) → Before lt ord F apart D s e → Over lt ord F apart D s a
-      → finish_in (Source (place (source D (snoc s false)) keys) (place (source D (snoc s true)) keys) x y (keep lt F e)) (beside_of D s) (keep lt F a) ≡ node_of lt F keys (source D s)
-  finish_any D s x y e a before over =
+  finish_any : (D s : Str) (x : Links) (e a : Option (Rule C)) → Before lt ord F apart D s e → Over lt ord F apart D s a
+      → finish_in (Source (links_of (λ b. place (source D (snoc s b)) keys)) x (keep lt F e)) (beside_of D s) (keep lt F a) ≡ node_of lt F keys (source D s)
+  finish_any D s x e a before over =
       let z = switch_is D s false in
       let o = switch_is D s true in
       let k = ap (λ (q : Option Kept). pick_kept (pick_kept (keep lt F e) (keep lt F a)) q) (kept_for s (longest_proper (λ A. has_src F A s) D)) ∙ kept_finish lt ord F apart D s e a before over in
-      λ i. Source (place (source D (snoc s false)) keys) (place (source D (snoc s true)) keys) (z i) (o i) (k i)
+      λ i. Source (links_of (λ b. place (source D (snoc s b)) keys)) (record { zero = z i; one = o i }) (k i)
 
   finish_mixed : (done : Str → Str → Bool) (D s : Str) (a : Option (Rule C)) → Over lt ord F apart D s a
       → finish_in (mixed done (source D s)) (beside_of D s) (keep lt F a) ≡ node_of lt F keys (source D s)
   finish_mixed done D s a over = go (done D s)
     where
       go : (x : Bool) → finish_in (cond x (node_of lt F keys (source D s)) (raw (own_of lt F F) keys (source D s))) (beside_of D s) (keep lt F a) ≡ node_of lt F keys (source D s)
-      go true = finish_any D s (switch_place F keys D s false) (switch_place F keys D s true) (kept lt F (D, s)) a (inr refl) over
-      go false = finish_any D s None None (best lt (exactly D s) F) a (inl refl) over
+      go true = finish_any D s (links_of (switch_place F keys D s)) (kept lt F (D, s)) a (inr refl) over
+      go false = finish_any D s no_links (best lt (exactly D s) F) a (inl refl) over
 
   -- ---- one node more
 
@@ -148,14 +150,14 @@ module _ {C : Type 0} (lt : Rule C → Rule C → Bool) (ord : Order lt) (F : Li
           ∙ cond-true (done A s) (node_of lt F keys (source A s)) (raw (own_of lt F F) keys (source A s)) (ready A s l.2 l.0)
 
   -- the path of (D, s) is done, and t stands at its end
-  pub record On (done : Str → Str → Bool) (D s : Str) (t : Trek) : Type 0 where
+  pub record On (done : Str → Str → Bool) (D s : Str) (t : List Node × Trek) : Type 0 where
     pub more : Str → Str → Bool
-    pub nodes : t.memory ≡ map (mixed more) keys
+    pub nodes : t.0 ≡ map (mixed more) keys
     pub stays : (E u : Str) → done E u ≡ true → more E u ≡ true
     pub covers : (u : Str) → starts u s ≡ true → more D u ≡ true
-    pub here : place (source D s) keys ≡ Some t.at
-    pub beside : t.beside ≡ beside_of D s
-    pub kept_is : t.kept ≡ keep lt F (kept lt F (D, s))
+    pub here : place (source D s) keys ≡ Some t.1.at
+    pub beside : t.1.beside ≡ beside_of D s
+    pub kept_is : t.1.kept ≡ keep lt F (kept lt F (D, s))
 
   pub trek_first : (done : Str → Str → Bool) (N : List Node) → N ≡ map (mixed done) keys → (D : Str) (top : ℕ) → place (source D []) keys ≡ Some top
       → (b : Node) → b ≡ beside_of D [] → On done D [] (finish_at N top b None)
@@ -174,36 +176,36 @@ module _ {C : Type 0} (lt : Rule C → Rule C → Bool) (ord : Order lt) (F : Li
       covers [] i = or_left (equal D D && true) (done D []) (and_from (equal D D) true (equal_refl D) refl)
       covers (x ∷ u) i = absurd (both_ways false refl i)
 
-  pub trek_next : (done : Str → Str → Bool) (D s : Str) (b : Bool) (t : Trek) → Ready done D → has_src F D (snoc s b) ≡ true
+  pub trek_next : (done : Str → Str → Bool) (D s : Str) (b : Bool) (t : List Node × Trek) → Ready done D → has_src F D (snoc s b) ≡ true
       → On done D s t → On done D (snoc s b) (trek_on t b)
   trek_next done D s b t ready has on =
       record {
         more = mark on.more D (snoc s b);
-        nodes = finished_nodes on.more t.memory on.nodes D (snoc s b) child here (node_if t.memory (next_of t.beside b)) beside t.kept (kept lt F (D, s)) on.kept_is over;
+        nodes = finished_nodes on.more t.0 on.nodes D (snoc s b) child here (node_if t.0 (next_of t.1.beside b)) beside t.1.kept (kept lt F (D, s)) on.kept_is over;
         stays = λ E u d. or_right (equal E D && equal u (snoc s b)) (on.more E u) (on.stays E u d);
         covers = covers;
         here = here;
         beside = beside;
-        kept_is = finished_kept on.more t.memory on.nodes D (snoc s b) child here (node_if t.memory (next_of t.beside b)) beside t.kept (kept lt F (D, s)) on.kept_is over;
+        kept_is = finished_kept on.more t.0 on.nodes D (snoc s b) child here (node_if t.0 (next_of t.1.beside b)) beside t.1.kept (kept lt F (D, s)) on.kept_is over;
       }
     where
       child : ℕ
-      child = child_from t.memory t.at b
+      child = child_from t.0 t.1.at b
 
       over : Over lt ord F apart D (snoc s b) (kept lt F (D, s))
       over = inr (s, b, refl, refl)
 
-      here : place (source D (snoc s b)) keys ≡ Some (child_from t.memory t.at b)
+      here : place (source D (snoc s b)) keys ≡ Some (child_from t.0 t.1.at b)
       here =
           let m = place_has (source D (snoc s b)) keys (whole (source D (snoc s b)) ∙ has) in
-          let c = ap (λ (n : Node). child_of n b) (mixed_at on.more t.memory on.nodes (source D s) t.at on.here) ∙ mixed_child on.more D s b in
-          m.1 ∙ ap (λ (o : Option ℕ). Some (unwrap_or o t.at)) (sym (c ∙ m.1))
+          let c = ap (λ (n : Node). child_of n b) (mixed_at on.more t.0 on.nodes (source D s) t.1.at on.here) ∙ mixed_child on.more D s b in
+          m.1 ∙ ap (λ (o : Option ℕ). Some (unwrap_or o t.1.at)) (sym (c ∙ m.1))
 
-      beside : node_if t.memory (next_of t.beside b) ≡ beside_of D (snoc s b)
+      beside : node_if t.0 (next_of t.1.beside b) ≡ beside_of D (snoc s b)
       beside =
-          ap (λ (n : Node). node_if t.memory (next_of n b)) on.beside
-          ∙ ap (node_if t.memory) (leads_on D s b)
-          ∙ beside_at on.more t.memory on.nodes D (snoc s b) (λ E u l h. on.stays E u (ready E u l h))
+          ap (λ (n : Node). node_if t.0 (next_of n b)) on.beside
+          ∙ ap (node_if t.0) (leads_on D s b)
+          ∙ beside_at on.more t.0 on.nodes D (snoc s b) (λ E u l h. on.stays E u (ready E u l h))
 
       covers : (u : Str) → starts u (snoc s b) ≡ true → mark on.more D (snoc s b) D u ≡ true
       covers u i =

@@ -10,7 +10,7 @@ use Rattle.grid.specs.declared.node.Node.{Node}
 use Rattle.grid.specs.declared.node.Node.TheVariants.{Empty, Destination, Source}
 use Rattle.grid.specs.declared.edit.Way.{Way}
 use Rattle.grid.specs.declared.edit.Way.TheVariants.{Down, Root}
-use Rattle.grid.specs.Nodes.{node_at}
+use Rattle.grid.specs.Nodes.{no_links, node_at}
 use Rattle.grid.specs.Edits.{lead_of, leading, bud_of}
 use Rattle.grid.specs.Derived.{Key, destination, source, key_eq, place, Rooted}
 use Rattle.grid.specs.Build.{reached, goes, make, own_at, raw, State, Grown}
@@ -88,26 +88,26 @@ raw_lead own keys (source D s) Root g = absurd (both_ways false refl g)
 -- ways that lead alike make the same node
 make_same : (k : Key) (f g : Way → Option ℕ) (o : Option Kept) → ((v : Way) → goes k v ≡ true → f v ≡ g v) → make k f o ≡ make k g o
 make_same (destination t) f g o e =
-    let a = e (Down false) refl in let b = e (Down true) refl in let c = e Root refl in λ i. Destination (a i) (b i) (c i)
+    let a = e (Down false) refl in let b = e (Down true) refl in let c = e Root refl in λ i. Destination (record { zero = a i; one = b i }) (c i)
 make_same (source D s) f g o e =
-    let a = e (Down false) refl in let b = e (Down true) refl in λ i. Source (a i) (b i) None None o
+    let a = e (Down false) refl in let b = e (Down true) refl in λ i. Source (record { zero = a i; one = b i }) no_links o
 
 -- with one way more
 make_lead : (k : Key) (w : Way) (f g : Way → Option ℕ) (o : Option Kept) (p : ℕ) → goes k w ≡ true → f w ≡ Some p
     → ((v : Way) → goes k v ≡ true → (v ≡ w → ⊥) → f v ≡ g v) → make k f o ≡ leading (make k g o) w p
 make_lead (destination t) (Down true) f g o p h e other =
     let a = other (Down false) refl (λ q. both_ways false refl (down_same false true q)) in
-    let c = other Root refl (root_down true) in λ i. Destination (a i) (e i) (c i)
+    let c = other Root refl (root_down true) in λ i. Destination (record { zero = a i; one = e i }) (c i)
 make_lead (destination t) (Down false) f g o p h e other =
     let b = other (Down true) refl (λ q. both_ways true (down_same true false q) refl) in
-    let c = other Root refl (root_down false) in λ i. Destination (e i) (b i) (c i)
+    let c = other Root refl (root_down false) in λ i. Destination (record { zero = e i; one = b i }) (c i)
 make_lead (destination t) Root f g o p h e other =
     let a = other (Down false) refl (down_root false) in
-    let b = other (Down true) refl (down_root true) in λ i. Destination (a i) (b i) (e i)
+    let b = other (Down true) refl (down_root true) in λ i. Destination (record { zero = a i; one = b i }) (e i)
 make_lead (source D s) (Down true) f g o p h e other =
-    let a = other (Down false) refl (λ q. both_ways false refl (down_same false true q)) in λ i. Source (a i) (e i) None None o
+    let a = other (Down false) refl (λ q. both_ways false refl (down_same false true q)) in λ i. Source (record { zero = a i; one = e i }) no_links o
 make_lead (source D s) (Down false) f g o p h e other =
-    let b = other (Down true) refl (λ q. both_ways true (down_same true false q) refl) in λ i. Source (e i) (b i) None None o
+    let b = other (Down true) refl (λ q. both_ways true (down_same true false q) refl) in λ i. Source (record { zero = e i; one = b i }) no_links o
 make_lead (source D s) Root f g o p h e other = absurd (both_ways false refl h)
 
 -- a node that leads nowhere and keeps nothing is the new node of a way
@@ -115,9 +115,9 @@ make_bud : (k : Key) (w : Way) (f g : Way → Option ℕ) (o q : Option Kept) �
     → make (reached k w) f o ≡ bud_of (make k g q) w
 make_bud (destination t) (Down b) f g o q h e n = make_same (destination (snoc t b)) f (λ v. None) o e
 make_bud (destination t) Root f g o q h e n =
-    make_same (source t []) f (λ v. None) o e ∙ ap (λ (z : Option Kept). Source None None None None z) n
+    make_same (source t []) f (λ v. None) o e ∙ ap (λ (z : Option Kept). Source no_links no_links z) n
 make_bud (source D s) (Down b) f g o q h e n =
-    make_same (source D (snoc s b)) f (λ v. None) o e ∙ ap (λ (z : Option Kept). Source None None None None z) n
+    make_same (source D (snoc s b)) f (λ v. None) o e ∙ ap (λ (z : Option Kept). Source no_links no_links z) n
 make_bud (source D s) Root f g o q h e n = absurd (both_ways false refl h)
 
 -- ---- a new key k·w behind the keys

@@ -20,4 +20,3 @@ pub mod Finished
 pub mod Counts
 pub mod Soundness
 pub mod Built
-pub mod Wrapped

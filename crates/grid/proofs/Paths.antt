@@ -1,7 +1,7 @@
 -- Insertion along a string, at its end, and of a whole filter.
 use Rattle.std.proofs.Common.{◌≡◌, ℕ, suc, ◌-◌, ◌<◌, Bool, true, false, ◌&&◌, ◌||◌, ◌⊎◌, List, [], ◌∷◌, ◌++◌, map, length, set, replicate, Some, None, Option, sym, refl, ap, ◌∙◌, subst, inl, inr, arith}
 use mathlib.Core.Bool.{beq}
-use Rattle.std.proofs.lemmas.List.{length-map, length-set, set-append_left}
+use Rattle.std.proofs.lemmas.List.{nil_from_length, length-map, length-set, set-append_left}
 use Rattle.std.proofs.lemmas.Bool.{both_ways, and_from, or_cases, or_left, cond-true, cond-false}
 use Rattle.kinds.specs.Strings.{Str, starts, equal, snoc}
 use Rattle.kinds.proofs.Prefixes.{equal_refl}
@@ -11,7 +11,7 @@ use Rattle.grid.specs.declared.node.Node.{Node}
 use Rattle.grid.specs.declared.node.Node.TheVariants.{Empty, Destination}
 use Rattle.grid.specs.declared.edit.Way.{Way}
 use Rattle.grid.specs.declared.edit.Way.TheVariants.{Down, Root}
-use Rattle.grid.specs.Nodes.{node_at, pick_kept}
+use Rattle.grid.specs.Nodes.{no_links, node_at, pick_kept}
 use Rattle.grid.specs.Edits.{keep_in}
 use Rattle.grid.specs.Derived.{Key, destination, source, key_eq, place, Rooted}
 use Rattle.grid.specs.Build.{reached, goes, in_trie, above, make, own_at, raw, State, Grown, keeping, Inserted}
@@ -98,10 +98,6 @@ pub root_first : (keys : List Key) → Rooted keys → 0 < length keys → place
 root_first [] r h = absurd (omega arith)
 root_first (k ∷ ks) r h = place_first (destination []) k ks (same_key_lem (destination []) k (sym r))
 
-no_keys : (keys : List Key) → length keys ≡ 0 → keys ≡ []
-no_keys [] e = refl
-no_keys (k ∷ ks) e = absurd (omega arith)
-
 -- the root of memory that has one
 pub plant_there : (own : Str → Str → Option Kept) (keys : List Key) (N : List Node) (used : ℕ) → State own keys N used → 0 < used
     → Grown own keys (λ l. key_eq l (in_trie None [])) (in_trie None []) N used 0
@@ -111,7 +107,7 @@ plant_there own keys N used st h =
 
 -- the root of empty memory
 pub plant_new : (own : Str → Str → Option Kept) (keys : List Key) (N : List Node) (used : ℕ) → State own keys N used → used ≡ 0 → 0 < length N
-    → Grown own keys (λ l. key_eq l (in_trie None [])) (in_trie None []) (set N 0 (Destination None None None)) 1 0
+    → Grown own keys (λ l. key_eq l (in_trie None [])) (in_trie None []) (set N 0 (Destination no_links None)) 1 0
 plant_new own keys N used st z h =
     record {
       more = root ∷ [];
@@ -132,7 +128,7 @@ plant_new own keys N used st z h =
     root = destination []
 
     none : keys ≡ []
-    none = let e = st.long in no_keys keys (omega arith)
+    none = let e = st.long in nil_from_length keys (omega arith)
 
     closed : (k : Key) (w : Way) → goes k w ≡ true → any (key_eq (reached k w)) (root ∷ []) ≡ true → any (key_eq k) (root ∷ []) ≡ true
     closed (destination t) (Down b) g e = absurd (snoc_root t b (or_cases (equal (snoc t b) []) false e))
@@ -153,13 +149,13 @@ plant_new own keys N used st z h =
     split : replicate {A = Node} (length N) Empty ≡ Empty ∷ replicate (length N - 1) Empty
     split = let e : length N ≡ suc (length N - 1) = omega arith in ap (λ (n : ℕ). replicate {A = Node} n Empty) e
 
-    raw_root : raw own (root ∷ []) root ≡ Destination None None None
+    raw_root : raw own (root ∷ []) root ≡ Destination no_links None
     raw_root = refl
 
-    nodes : set N 0 (Destination None None None) ≡ raw own (root ∷ []) root ∷ replicate (length (set N 0 (Destination None None None)) - 1) Empty
+    nodes : set N 0 (Destination no_links None) ≡ raw own (root ∷ []) root ∷ replicate (length (set N 0 (Destination no_links None)) - 1) Empty
     nodes =
-        ap (λ (M : List Node). set M 0 (Destination None None None)) (empty ∙ split)
-        ∙ ap (λ (n : ℕ). Destination None None None ∷ replicate {A = Node} (n - 1) Empty) (sym (length-set N 0 (Destination None None None)))
+        ap (λ (M : List Node). set M 0 (Destination no_links None)) (empty ∙ split)
+        ∙ ap (λ (n : ℕ). Destination no_links None ∷ replicate {A = Node} (n - 1) Empty) (sym (length-set N 0 (Destination no_links None)))
 
 -- ---- what is kept at the end
 

@@ -7,7 +7,7 @@ use Rattle.grid.specs.declared.node.Node.{Node}
 use Rattle.grid.specs.declared.node.Node.TheVariants.{Empty, Destination, Source}
 use Rattle.grid.specs.declared.edit.Way.{Way}
 use Rattle.grid.specs.declared.edit.Way.TheVariants.{Down, Root}
-use Rattle.grid.specs.Nodes.{node_at, child_of, switch_of, next_of, root_of, within, links_within, sound, is_empty, bare}
+use Rattle.grid.specs.Nodes.{no_links, link_with, node_at, child_of, switch_of, next_of, root_of, within, links_within, sound, is_empty, bare}
 use Rattle.grid.specs.Edits.{lead_of, leading, bud_of, keep_in, switched, finish_in}
 use Rattle.grid.specs.Build.{Safe}
 use Rattle.grid.proofs.Wiped.{sound_wiped, bare_wiped}
@@ -34,28 +34,28 @@ lead_within u n Root h = (links u n h).root
 
 pub links_leading : (u : ℕ) (n : Node) (w : Way) (p : ℕ) → p < u → links_within u n ≡ true → links_within u (leading n w p) ≡ true
 links_leading u Empty w p l h = refl
-links_leading u (Destination z o r) (Down true) p l h =
-    let q = links u (Destination z o r) h in links_from u (Destination z (Some p) r) (q.child false) (lt-ltb p u l) refl refl q.root
-links_leading u (Destination z o r) (Down false) p l h =
-    let q = links u (Destination z o r) h in links_from u (Destination (Some p) o r) (lt-ltb p u l) (q.child true) refl refl q.root
-links_leading u (Destination z o r) Root p l h =
-    let q = links u (Destination z o r) h in links_from u (Destination z o (Some p)) (q.child false) (q.child true) refl refl (lt-ltb p u l)
-links_leading u (Source z o x y k) (Down true) p l h =
-    let q = links u (Source z o x y k) h in links_from u (Source z (Some p) x y k) (q.child false) (lt-ltb p u l) (q.switch false) (q.switch true) refl
-links_leading u (Source z o x y k) (Down false) p l h =
-    let q = links u (Source z o x y k) h in links_from u (Source (Some p) o x y k) (lt-ltb p u l) (q.child true) (q.switch false) (q.switch true) refl
-links_leading u (Source z o x y k) Root p l h = h
+links_leading u (Destination c r) (Down true) p l h =
+    let q = links u (Destination c r) h in links_from u (Destination (link_with c true p) r) (q.child false) (lt-ltb p u l) refl refl q.root
+links_leading u (Destination c r) (Down false) p l h =
+    let q = links u (Destination c r) h in links_from u (Destination (link_with c false p) r) (lt-ltb p u l) (q.child true) refl refl q.root
+links_leading u (Destination c r) Root p l h =
+    let q = links u (Destination c r) h in links_from u (Destination c (Some p)) (q.child false) (q.child true) refl refl (lt-ltb p u l)
+links_leading u (Source c x k) (Down true) p l h =
+    let q = links u (Source c x k) h in links_from u (Source (link_with c true p) x k) (q.child false) (lt-ltb p u l) (q.switch false) (q.switch true) refl
+links_leading u (Source c x k) (Down false) p l h =
+    let q = links u (Source c x k) h in links_from u (Source (link_with c false p) x k) (lt-ltb p u l) (q.child true) (q.switch false) (q.switch true) refl
+links_leading u (Source c x k) Root p l h = h
 
 pub links_bud : (u : ℕ) (n : Node) (w : Way) → links_within u (bud_of n w) ≡ true
 links_bud u Empty w = refl
-links_bud u (Destination z o r) (Down b) = refl
-links_bud u (Destination z o r) Root = refl
-links_bud u (Source z o x y k) w = refl
+links_bud u (Destination c r) (Down b) = refl
+links_bud u (Destination c r) Root = refl
+links_bud u (Source c x k) w = refl
 
 pub links_keep : (u : ℕ) (n : Node) (c : Kept) → links_within u n ≡ true → links_within u (keep_in n c) ≡ true
 links_keep u Empty c h = h
-links_keep u (Destination z o r) c h = h
-links_keep u (Source z o x y k) c h = h
+links_keep u (Destination l r) c h = h
+links_keep u (Source l x k) c h = h
 
 switched_within : (u : ℕ) (child to : Option ℕ) → within u to ≡ true → within u (switched child to) ≡ true
 switched_within u None to h = h
@@ -63,11 +63,11 @@ switched_within u (Some p) to h = refl
 
 pub links_finish : (u : ℕ) (n beside : Node) (above : Option Kept) → links_within u n ≡ true → links_within u beside ≡ true → links_within u (finish_in n beside above) ≡ true
 links_finish u Empty beside above h k = h
-links_finish u (Destination z o r) beside above h k = h
-links_finish u (Source z o x y c) beside above h k =
-    let q = links u (Source z o x y c) h in
-    links_from u (finish_in (Source z o x y c) beside above) (q.child false) (q.child true) (switched_within u z (next_of beside false) (next_in u beside false k))
-    (switched_within u o (next_of beside true) (next_in u beside true k)) refl
+links_finish u (Destination c r) beside above h k = h
+links_finish u (Source c x e) beside above h k =
+    let q = links u (Source c x e) h in
+    links_from u (finish_in (Source c x e) beside above) (q.child false) (q.child true) (switched_within u c.zero (next_of beside false) (next_in u beside false k))
+    (switched_within u c.one (next_of beside true) (next_in u beside true k)) refl
 
 -- ---- all nodes
 
@@ -122,9 +122,9 @@ safe_grown u N i w s l k =
     (links_leading (u + 1) (node_at N i) w u (omega arith) (links_more u (u + 1) (omega arith) (node_at N i) (sound_at u N i s.linked)))
 
 -- the first node of all
-pub safe_first : (u : ℕ) (N : List Node) → Safe u N → u ≡ 0 → 0 < length N → Safe 1 (set N 0 (Destination None None None))
+pub safe_first : (u : ℕ) (N : List Node) → Safe u N → u ≡ 0 → 0 < length N → Safe 1 (set N 0 (Destination no_links None))
 safe_first u N s z l =
-    safe_push 0 N (Destination None None None) (subst (λ (n : ℕ). Safe n N) z s) l refl
+    safe_push 0 N (Destination no_links None) (subst (λ (n : ℕ). Safe n N) z s) l refl
 
 -- empty memory
 pub safe_none : (u : ℕ) (N : List Node) → u ≡ 0 → N ≡ replicate (length N) Empty → Safe u N

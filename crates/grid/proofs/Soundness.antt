@@ -10,7 +10,8 @@ use Rattle.grid.specs.declared.node.Node.TheVariants.{Empty, Destination, Source
 use Rattle.grid.specs.Nodes.{node_at, next_of, links_within, sound, bare}
 use Rattle.grid.specs.Edits.{finish_in}
 use Rattle.grid.specs.Build.{Safe}
-use Rattle.grid.specs.Finish.{node_if, child_from, roots, Trek, finish_at, trek_on, trek, finish_from, finish_path, finish_length, finish_below}
+use Rattle.grid.specs.declared.finish.Trek.{Trek}
+use Rattle.grid.specs.Finish.{node_if, child_from, roots, finish_at, trek_on, trek, finish_from, finish_path, finish_length, finish_below}
 use Rattle.grid.proofs.Sound.{sound_at}
 use Rattle.grid.proofs.Safety.{links_finish, sound_set}
 
@@ -19,14 +20,14 @@ module _ (u : ℕ) where
   links_if N None h = refl
   links_if N (Some p) h = sound_at u N p h
 
-  sound_node : (N : List Node) (p : ℕ) (b : Node) (a : Option Kept) → sound u N ≡ true → links_within u b ≡ true → sound u (finish_at N p b a).memory ≡ true
+  sound_node : (N : List Node) (p : ℕ) (b : Node) (a : Option Kept) → sound u N ≡ true → links_within u b ≡ true → sound u (finish_at N p b a).0 ≡ true
   sound_node N p b a h k = sound_set u N p (finish_in (node_at N p) b a) h (links_finish u (node_at N p) b a (sound_at u N p h) k)
 
-  sound_trek : (s : Str) (t : Trek) → sound u t.memory ≡ true → links_within u t.beside ≡ true → sound u (trek t s).memory ≡ true
+  sound_trek : (s : Str) (t : List Node × Trek) → sound u t.0 ≡ true → links_within u t.1.beside ≡ true → sound u (trek t s).0 ≡ true
   sound_trek [] t h k = h
   sound_trek (b ∷ s) t h k =
-      let l = links_if t.memory (next_of t.beside b) h in
-      sound_trek s (trek_on t b) (sound_node t.memory (child_from t.memory t.at b) (node_if t.memory (next_of t.beside b)) t.kept h l) l
+      let l = links_if t.0 (next_of t.1.beside b) h in
+      sound_trek s (trek_on t b) (sound_node t.0 (child_from t.0 t.1.at b) (node_if t.0 (next_of t.1.beside b)) t.1.kept h l) l
 
   sound_from : (N : List Node) (o up : Option ℕ) (s : Str) → sound u N ≡ true → sound u (finish_from N (o, up) s) ≡ true
   sound_from N None up s h = h
@@ -81,5 +82,5 @@ module _ (u : ℕ) where
 pub bare_is : (N : List Node) → bare N ≡ true → N ≡ replicate (length N) Empty
 bare_is [] h = refl
 bare_is (Empty ∷ N) h = ap {B = List Node} (λ r. Empty ∷ r) (bare_is N h)
-bare_is (Destination z o r ∷ N) h = absurd (both_ways false refl h)
-bare_is (Source z o x y k ∷ N) h = absurd (both_ways false refl h)
+bare_is (Destination c r ∷ N) h = absurd (both_ways false refl h)
+bare_is (Source c x k ∷ N) h = absurd (both_ways false refl h)

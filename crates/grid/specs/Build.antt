@@ -8,7 +8,7 @@ use Rattle.grid.specs.declared.node.Node.{Node}
 use Rattle.grid.specs.declared.node.Node.TheVariants.{Empty, Destination, Source}
 use Rattle.grid.specs.declared.edit.Way.{Way}
 use Rattle.grid.specs.declared.edit.Way.TheVariants.{Down, Root}
-use Rattle.grid.specs.Nodes.{sound, bare, pick_kept}
+use Rattle.grid.specs.Nodes.{links_of, no_links, sound, bare, pick_kept}
 use Rattle.grid.specs.Derived.{Key, destination, source, key_eq, is_key, place, once, Rooted, keep}
 
 -- memory as a grid has it: the used places are there, every link is below them, and every place behind is empty
@@ -44,8 +44,8 @@ above (source D s) (source E u) = equal E D && starts u s
 
 -- the node of a key, given where its ways lead and what it keeps; it has no switches
 abbrev pub make : Key → (Way → Option ℕ) → Option Kept → Node
-make (destination t) to k = Destination (to (Down false)) (to (Down true)) (to Root)
-make (source D s) to k = Source (to (Down false)) (to (Down true)) None None k
+make (destination t) to k = Destination (links_of (λ b. to (Down b))) (to Root)
+make (source D s) to k = Source (links_of (λ b. to (Down b))) no_links k
 
 -- what a key keeps, where own says what source nodes do
 abbrev pub own_at : (Str → Str → Option Kept) → Key → Option Kept

@@ -8,6 +8,7 @@ use Rattle.tries.specs.Search.{kept}
 use Rattle.grid.specs.declared.node.Kept.{Kept}
 use Rattle.grid.specs.declared.node.Node.{Node}
 use Rattle.grid.specs.declared.node.Node.TheVariants.{Empty, Destination, Source}
+use Rattle.grid.specs.Nodes.{links_of}
 
 -- the name of a node: a destination string, or a destination string and a source string
 pub data Key : Type 0 where
@@ -65,11 +66,9 @@ module _ {C : Type 0} (lt : Rule C → Rule C → Bool) (F : List (Rule C)) wher
 
   -- the node of a key: children by their places, switches where there is no child, and the best filter of its strings
   abbrev pub node_of : List Key → Key → Node
-  node_of keys (destination t) =
-      Destination (place (destination (snoc t false)) keys) (place (destination (snoc t true)) keys) (place (source t []) keys)
+  node_of keys (destination t) = Destination (links_of (λ b. place (destination (snoc t b)) keys)) (place (source t []) keys)
   node_of keys (source D s) =
-      Source (place (source D (snoc s false)) keys) (place (source D (snoc s true)) keys)
-      (switch_place F keys D s false) (switch_place F keys D s true) (keep (kept lt F (D, s)))
+      Source (links_of (λ b. place (source D (snoc s b)) keys)) (links_of (switch_place F keys D s)) (keep (kept lt F (D, s)))
 
 -- the memory N, of which the first places are used, holds the grid of F: there is a numbering of just the nodes of that grid,
 -- the root first, by which each used place holds the node of its key; every other place is empty

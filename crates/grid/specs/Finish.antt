@@ -1,11 +1,13 @@
 -- The finishing of nodes, as it goes: along the source path of each filter, the shorter destinations first.
 use Rattle.std.specs.Prelude.{ℕ, zero, suc, Bool, cond, List, [], ◌∷◌, length, Some, None, Option, ◌==◌, slice_set}
 use Rattle.std.specs.Option.{unwrap_or, option_or}
+use Rattle.std.specs.List.{fold}
 use Rattle.kinds.specs.Strings.{Str}
 use Rattle.filters.specs.Rules.{Rule}
 use Rattle.grid.specs.declared.node.Kept.{Kept}
 use Rattle.grid.specs.declared.node.Node.{Node}
 use Rattle.grid.specs.declared.node.Node.TheVariants.{Empty}
+use Rattle.grid.specs.declared.finish.Trek.{Trek}
 use Rattle.grid.specs.Nodes.{node_at, child_of, next_of, root_of, kept_of}
 use Rattle.grid.specs.Edits.{finish_in}
 
@@ -27,36 +29,24 @@ roots N p up (b ∷ r) = roots N (child_from N p b) (option_or (root_of (node_at
 
 -- ---- along a source path
 
--- how far the finishing of a path has come: the memory, the place that was finished last, the node beside it, and what is kept there
-pub record Trek : Type 0 where
-  pub memory : List Node
-  pub at : ℕ
-  pub beside : Node
-  pub kept : Option Kept
-
--- the node at p is finished
-abbrev pub finish_at : List Node → ℕ → Node → Option Kept → Trek
+-- the node at p is finished: the memory then, and how far the finishing of its path has come
+abbrev pub finish_at : List Node → ℕ → Node → Option Kept → List Node × Trek
 finish_at N p beside above =
-    record {
-      memory = slice_set N p (finish_in (node_at N p) beside above);
-      at = p;
-      beside = beside;
-      kept = kept_of (finish_in (node_at N p) beside above);
-    }
+    (slice_set N p (finish_in (node_at N p) beside above), record { at = p; beside = beside; kept = kept_of (finish_in (node_at N p) beside above) })
 
 -- and then the next, by a bit
-abbrev pub trek_on : Trek → Bool → Trek
-trek_on t b = finish_at t.memory (child_from t.memory t.at b) (node_if t.memory (next_of t.beside b)) t.kept
+abbrev pub trek_on : List Node × Trek → Bool → List Node × Trek
+trek_on t b = finish_at t.0 (child_from t.0 t.1.at b) (node_if t.0 (next_of t.1.beside b)) t.1.kept
 
-abbrev pub trek : Trek → Str → Trek
-trek t [] = t
-trek t (b ∷ r) = trek (trek_on t b) r
+-- and so on, along a string
+abbrev pub trek : List Node × Trek → Str → List Node × Trek
+trek t s = fold trek_on t s
 
 -- ---- filter by filter
 
 -- the path of s, from the root of its trie, and the root beside that
 abbrev pub finish_from : List Node → Option ℕ × Option ℕ → Str → List Node
-finish_from N r s = elim r.0 [ None ↦ N | Some top ↦ (trek (finish_at N top (node_if N r.1) None) s).memory ]
+finish_from N r s = elim r.0 [ None ↦ N | Some top ↦ (trek (finish_at N top (node_if N r.1) None) s).0 ]
 
 -- the source path of a filter with destination D and source s
 abbrev pub finish_path : List Node → Str → Str → List Node

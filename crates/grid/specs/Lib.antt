@@ -4,7 +4,6 @@ pub mod Derived
 pub mod Steps
 pub mod Edits
 pub mod Build
-pub mod Spans
 pub mod Finish
 pub mod Refusals
 pub mod Trails

@@ -1,19 +1,17 @@
 // The building of the grid: the places used so far are emptied, all filters are inserted, and the nodes are finished.
-ghost use Rattle.std.specs.Prelude.{◌≡◌, ◌≤◌, true, false, length, take, if◌then◌else◌, Ok, Err, MatchResult};
+ghost use Rattle.std.specs.Prelude.{◌≡◌, ◌≤◌, true, false, length, take, replicate, if◌then◌else◌, Ok, Err, MatchResult};
 ghost use Rattle.book.specs.Books.{after};
 ghost use Rattle.filters.specs.Rules.{better};
 ghost use Rattle.filters.specs.Meaning.{rules};
 ghost use Rattle.filters.specs.Orders.{Apart};
 ghost use Rattle.tries.specs.Shape.{need, nodes as nodes_of};
 ghost use Rattle.grid.specs.Derived.{Derived};
-ghost use Rattle.grid.specs.Build.{Safe};
+ghost use Rattle.grid.specs.declared.node.Node.TheVariants.{Empty};
 ghost use Rattle.grid.specs.declared.build.BuildFault.TheVariants.{Places};
 ghost use Rattle.grid.specs.Refusals.{build_number, too_few};
 
-use crate::fill::insert_all;
-use crate::finish::finish_all;
+use crate::finish::finish_first;
 use crate::grid::{Grid, empty_first};
-use crate::node::Node;
 use book::book::Book;
 use filters::filter::Record;
 use kinds::address::Address;
@@ -43,58 +41,39 @@ fn places_needed<D: Address, S: Address>(count: usize) -> usize
     ensures { result ≡ need count D.Address.WIDTH S.Address.WIDTH }
 {
     if count == 0 {
-        return 0;
+        0
+    } else {
+        1 + count * (D::WIDTH + S::WIDTH + 1) as usize
     }
-    let bits = (D::WIDTH + S::WIDTH + 1) as usize;
-    1 + count * bits
-}
-
-// Builds the grid of the filters that the records hold, in memory that has places enough. It answers the number of nodes.
-fn fill<D: Address, S: Address, C: Cost>(
-    nodes: &mut [Node],
-    used: &mut u32,
-    records: &[Record<D, S, C>],
-) -> u32
-    requires safe { Safe used.old nodes.old }
-    requires few { length records.now ≤ 4095 }
-    requires room { need (length records.now) D.Address.WIDTH S.Address.WIDTH ≤ length nodes.old }
-    ensures safe { Safe used.new nodes.new }
-    ensures answer { result ≡ used.new }
-    ensures count { used.new ≡ nodes_of (rules D.Address.spells S.Address.spells C.Written.reads records.now) }
-    ensures grid { Apart (rules D.Address.spells S.Address.spells C.Written.reads records.now) → Derived (better C.Cost.order) (rules D.Address.spells S.Address.spells C.Written.reads records.now) nodes.new used.new }
-{
-    empty_first(nodes, *used as usize);
-    *used = 0;
-    insert_all::<D, S, C>(nodes, used, records);
-    let count = *used as usize;
-    finish_all::<D, S, C>(&mut nodes[0..count], records);
-    *used
 }
 
 impl<'m, D: Address, S: Address, C: Cost> Grid<'m, D, S, C> {
-    // Builds the grid of the filters that the records hold. It is refused before the first write where the node places are fewer than
-    // so many filters may need, and then nothing changes; else the number of nodes is answered.
-    pub(crate) fn build_from(
-        &mut self,
-        records: &[Record<D, S, C>],
-    ) -> Result<u32, BuildFault>
-        requires { length records.now ≤ 4095 }
-        ensures answer { result ≡ (if too_few (length self.old.nodes.now) (length records.now) D.Address.WIDTH S.Address.WIDTH then Err Places else Ok (nodes_of (rules D.Address.spells S.Address.spells C.Written.reads records.now))) }
-        ensures count { self.new.used ≡ (if too_few (length self.old.nodes.now) (length records.now) D.Address.WIDTH S.Address.WIDTH then self.old.used else nodes_of (rules D.Address.spells S.Address.spells C.Written.reads records.now)) }
-        ensures places { length self.new.nodes.now ≡ length self.old.nodes.now }
-        ensures same { too_few (length self.old.nodes.now) (length records.now) D.Address.WIDTH S.Address.WIDTH ≡ true → self.new.nodes.now ≡ self.old.nodes.now }
-        ensures grid { too_few (length self.old.nodes.now) (length records.now) D.Address.WIDTH S.Address.WIDTH ≡ false → Apart (rules D.Address.spells S.Address.spells C.Written.reads records.now) → Derived (better C.Cost.order) (rules D.Address.spells S.Address.spells C.Written.reads records.now) self.new.nodes.now self.new.used }
+    // Empties the grid.
+    fn clear(&mut self)
+        ensures count { self.new.used ≡ 0 }
+        ensures memory { self.new.nodes.now ≡ replicate (length self.old.nodes.now) Empty }
     {
-        let needed = places_needed::<D, S>(records.len());
-        if self.nodes.len() < needed {
-            return Err(BuildFault::Places);
-        }
         let Grid { nodes, used, .. } = self;
-        Ok(fill::<D, S, C>(nodes, used, records))
+        empty_first(nodes, *used as usize);
+        *used = 0;
     }
-}
 
-impl<'m, D: Address, S: Address, C: Cost> Grid<'m, D, S, C> {
+    // Builds the grid of the filters that the records hold, in memory that has places enough. It answers the number of nodes.
+    fn fill(&mut self, records: &[Record<D, S, C>]) -> u32
+        requires few { length records.now ≤ 4095 }
+        requires room { need (length records.now) D.Address.WIDTH S.Address.WIDTH ≤ length self.old.nodes.now }
+        ensures answer { result ≡ self.new.used }
+        ensures count { self.new.used ≡ nodes_of (rules D.Address.spells S.Address.spells C.Written.reads records.now) }
+        ensures places { length self.new.nodes.now ≡ length self.old.nodes.now }
+        ensures grid { Apart (rules D.Address.spells S.Address.spells C.Written.reads records.now) → Derived (better C.Cost.order) (rules D.Address.spells S.Address.spells C.Written.reads records.now) self.new.nodes.now self.new.used }
+    {
+        self.clear();
+        self.insert_all(records);
+        let Grid { nodes, used, .. } = self;
+        finish_first::<D, S, C>(nodes, *used as usize, records);
+        *used
+    }
+
     // Builds the grid of the book's filters, and answers how many nodes it uses; the book stays as found. Where the node places
     // are fewer than so many filters may need it is refused before the first write.
     pub fn build(&mut self, book: &Book<D, S, C>) -> Result<u32, BuildFault>
@@ -103,6 +82,10 @@ impl<'m, D: Address, S: Address, C: Cost> Grid<'m, D, S, C> {
         ensures places { length self.new.nodes.now ≡ length self.old.nodes.now }
         ensures memory { MatchResult result (λ _. Derived (better C.Cost.order) (rules D.Address.spells S.Address.spells C.Written.reads (take book.now.used book.now.places.now)) self.new.nodes.now self.new.used) (λ _. self.new.nodes.now ≡ self.old.nodes.now) }
     {
-        self.build_from(book.records())
+        let records = book.records();
+        if self.nodes.len() < places_needed::<D, S>(records.len()) {
+            return Err(BuildFault::Places);
+        }
+        Ok(self.fill(records))
     }
 }

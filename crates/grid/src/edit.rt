@@ -2,9 +2,10 @@
 ghost use Rattle.std.specs.Prelude.{◌≡◌};
 ghost use Rattle.grid.specs.Edits.{lead_of, leading, bud_of, keep_in, switched, finish_in};
 
-use crate::node::{Kept, Node, pick_kept};
+use crate::node::{Kept, Links, Node, pick_kept};
 
 // The ways from a node to one that hangs on it: by a bit in the same trie, or from a destination node to the root of its source trie.
+// Not Option<bool>: the root is a way too, and None would read as none.
 #[derive(Clone, Copy)]
 pub(crate) enum Way {
     Down(bool),
@@ -15,10 +16,7 @@ pub(crate) enum Way {
 fn switch_beside(child: Option<u32>, to: Option<u32>) -> Option<u32>
     ensures { result ≡ switched child to }
 {
-    match child {
-        Some(_) => None,
-        None => to,
-    }
+    if child.is_some() { None } else { to }
 }
 
 impl Node {
@@ -37,30 +35,24 @@ impl Node {
         ensures { result ≡ leading self way to }
     {
         match (self, way) {
-            (Node::Destination { zero, one, source }, Way::Down(bit)) => Node::Destination {
-                zero: if bit { zero } else { Some(to) },
-                one: if bit { Some(to) } else { one },
+            (Node::Destination { children, source }, Way::Down(bit)) => Node::Destination {
+                children: children.with(bit, to),
                 source,
             },
-            (Node::Destination { zero, one, .. }, Way::Root) => Node::Destination {
-                zero,
-                one,
+            (Node::Destination { children, .. }, Way::Root) => Node::Destination {
+                children,
                 source: Some(to),
             },
             (
                 Node::Source {
-                    zero,
-                    one,
-                    switch_zero,
-                    switch_one,
+                    children,
+                    switches,
                     kept,
                 },
                 Way::Down(bit),
             ) => Node::Source {
-                zero: if bit { zero } else { Some(to) },
-                one: if bit { Some(to) } else { one },
-                switch_zero,
-                switch_one,
+                children: children.with(bit, to),
+                switches,
                 kept,
             },
             (other, _) => other,
@@ -74,15 +66,12 @@ impl Node {
         match (self, way) {
             (Node::Empty, _) => Node::Empty,
             (Node::Destination { .. }, Way::Down(_)) => Node::Destination {
-                zero: None,
-                one: None,
+                children: Links::NONE,
                 source: None,
             },
             _ => Node::Source {
-                zero: None,
-                one: None,
-                switch_zero: None,
-                switch_one: None,
+                children: Links::NONE,
+                switches: Links::NONE,
                 kept: None,
             },
         }
@@ -94,20 +83,14 @@ impl Node {
     {
         match self {
             Node::Source {
-                zero,
-                one,
-                switch_zero,
-                switch_one,
+                children,
+                switches,
                 kept,
-            } => {
-                Node::Source {
-                    zero,
-                    one,
-                    switch_zero,
-                    switch_one,
-                    kept: pick_kept(kept, Some(more)),
-                }
-            }
+            } => Node::Source {
+                children,
+                switches,
+                kept: pick_kept(kept, Some(more)),
+            },
             other => other,
         }
     }
@@ -118,16 +101,12 @@ impl Node {
         ensures { result ≡ finish_in self beside above }
     {
         match self {
-            Node::Source {
-                zero,
-                one,
-                kept,
-                ..
-            } => Node::Source {
-                zero,
-                one,
-                switch_zero: switch_beside(zero, beside.next(false)),
-                switch_one: switch_beside(one, beside.next(true)),
+            Node::Source { children, kept, .. } => Node::Source {
+                children,
+                switches: Links {
+                    zero: switch_beside(children.zero, beside.next(false)),
+                    one: switch_beside(children.one, beside.next(true)),
+                },
                 kept: pick_kept(pick_kept(kept, above), beside.kept()),
             },
             other => other,

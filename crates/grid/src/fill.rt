@@ -5,58 +5,49 @@ ghost use Rattle.filters.specs.Meaning.{held, rules};
 ghost use Rattle.filters.specs.Orders.{In};
 ghost use Rattle.tries.specs.Shape.{need};
 ghost use Rattle.grid.specs.declared.node.Node.TheVariants.{Empty};
-ghost use Rattle.grid.specs.Build.{Safe, Filled};
+ghost use Rattle.grid.specs.Build.{Filled};
 
-use crate::insert::insert;
-use crate::node::{Kept, Node};
-use crate::span::span_of;
-use filters::filter::Record;
+use crate::grid::Grid;
+use crate::node::Kept;
+use filters::filter::{Prefix, Record};
 use filters::search::standing;
 use kinds::address::Address;
 use kinds::cost::Cost;
 
-// Inserts what a place holds, if it holds a filter; its standing is that among all records.
-fn insert_record<D: Address, S: Address, C: Cost>(
-    nodes: &mut [Node],
-    used: &mut u32,
-    records: &[Record<D, S, C>],
-    place: &Record<D, S, C>,
-)
-    requires safe { Safe used.old nodes.old }
-    requires few { length records.now ≤ 4095 }
-    requires room { (max 1 used.old + (D.Address.WIDTH + S.Address.WIDTH + 1) ≤ length nodes.old) × (max 1 used.old + (D.Address.WIDTH + S.Address.WIDTH + 1) < 2 ^ 32) }
-    ensures safe { Safe used.new nodes.new }
-    ensures most { used.new ≤ max 1 used.old + (D.Address.WIDTH + S.Address.WIDTH + 1) }
-    ensures grid { (G : List (Rule C)) → ((f : Rule C) → In f G → In f (rules D.Address.spells S.Address.spells C.Written.reads records.now)) → ((f : Rule C) → In f (held D.Address.spells S.Address.spells C.Written.reads place.now) → In f (rules D.Address.spells S.Address.spells C.Written.reads records.now)) → Filled (better C.Cost.order) (rules D.Address.spells S.Address.spells C.Written.reads records.now) G nodes.old used.old → Filled (better C.Cost.order) (rules D.Address.spells S.Address.spells C.Written.reads records.now) (G ++ held D.Address.spells S.Address.spells C.Written.reads place.now) nodes.new used.new }
-{
-    let Ok(cost) = C::read(place.cost) else {
-        return;
-    };
-    let rank = standing::<D, S, C>(records, &cost, place.label);
-    let kept = Kept {
-        label: place.label,
-        standing: rank as u16,
-        directive: place.directive,
-    };
-    let to = span_of::<D>(place.destination);
-    let from = span_of::<S>(place.source);
-    insert(nodes, used, &to, &from, kept);
-}
+impl<'m, D: Address, S: Address, C: Cost> Grid<'m, D, S, C> {
+    // Inserts what a place holds, if it holds a filter; its standing is that among all records.
+    fn insert_record(&mut self, records: &[Record<D, S, C>], place: &Record<D, S, C>)
+        requires few { length records.now ≤ 4095 }
+        requires room { (max 1 self.old.used + (D.Address.WIDTH + S.Address.WIDTH + 1) ≤ length self.old.nodes.now) × (max 1 self.old.used + (D.Address.WIDTH + S.Address.WIDTH + 1) < 2 ^ 32) }
+        ensures most { self.new.used ≤ max 1 self.old.used + (D.Address.WIDTH + S.Address.WIDTH + 1) }
+        ensures places { length self.new.nodes.now ≡ length self.old.nodes.now }
+        ensures grid { (G : List (Rule C)) → ((f : Rule C) → In f G → In f (rules D.Address.spells S.Address.spells C.Written.reads records.now)) → ((f : Rule C) → In f (held D.Address.spells S.Address.spells C.Written.reads place.now) → In f (rules D.Address.spells S.Address.spells C.Written.reads records.now)) → Filled (better C.Cost.order) (rules D.Address.spells S.Address.spells C.Written.reads records.now) G self.old.nodes.now self.old.used → Filled (better C.Cost.order) (rules D.Address.spells S.Address.spells C.Written.reads records.now) (G ++ held D.Address.spells S.Address.spells C.Written.reads place.now) self.new.nodes.now self.new.used }
+    {
+        let Ok(cost) = C::read(place.cost) else {
+            return;
+        };
+        let rank = standing::<D, S, C>(records, &cost, place.label);
+        let kept = Kept {
+            label: place.label,
+            standing: rank as u16,
+            directive: place.directive,
+        };
+        let to = Prefix::<D>::of(&place.destination);
+        let from = Prefix::<S>::of(&place.source);
+        self.insert(&to, &from, kept);
+    }
 
-// Inserts all filters into empty memory that has places enough.
-pub(crate) fn insert_all<D: Address, S: Address, C: Cost>(
-    nodes: &mut [Node],
-    used: &mut u32,
-    records: &[Record<D, S, C>],
-)
-    requires start { used.old ≡ 0 }
-    requires bare { nodes.old ≡ replicate (length nodes.old) Empty }
-    requires few { length records.now ≤ 4095 }
-    requires room { need (length records.now) D.Address.WIDTH S.Address.WIDTH ≤ length nodes.old }
-    ensures safe { Safe used.new nodes.new }
-    ensures grid { Filled (better C.Cost.order) (rules D.Address.spells S.Address.spells C.Written.reads records.now) (rules D.Address.spells S.Address.spells C.Written.reads records.now) nodes.new used.new }
-{
-    for place in records {
-        insert_record::<D, S, C>(nodes, used, records, place);
+    // Inserts all filters into empty memory that has places enough.
+    pub(crate) fn insert_all(&mut self, records: &[Record<D, S, C>])
+        requires start { self.old.used ≡ 0 }
+        requires bare { self.old.nodes.now ≡ replicate (length self.old.nodes.now) Empty }
+        requires few { length records.now ≤ 4095 }
+        requires room { need (length records.now) D.Address.WIDTH S.Address.WIDTH ≤ length self.old.nodes.now }
+        ensures places { length self.new.nodes.now ≡ length self.old.nodes.now }
+        ensures grid { Filled (better C.Cost.order) (rules D.Address.spells S.Address.spells C.Written.reads records.now) (rules D.Address.spells S.Address.spells C.Written.reads records.now) self.new.nodes.now self.new.used }
+    {
+        for place in records {
+            self.insert_record(records, place);
+        }
     }
 }

@@ -1,15 +1,13 @@
 // The finishing of nodes: switches, and the best of what is kept. Each source path is walked with two places: the node to finish, and
 // the node beside it, which is that of the same source string at the longest shorter destination that has one.
-ghost use Rattle.std.specs.Prelude.{◌≡◌, ◌+◌, ◌≤◌, length, None, slice_set};
-ghost use Rattle.filters.specs.Meaning.{rules, held};
+ghost use Rattle.std.specs.Prelude.{◌≡◌, ◌+◌, ◌≤◌, ◌++◌, length, take, drop, None, slice_set};
+ghost use Rattle.filters.specs.Meaning.{prefix_of, rules, held};
 ghost use Rattle.grid.specs.Nodes.{node_at, kept_of};
 ghost use Rattle.grid.specs.Edits.{finish_in};
-ghost use Rattle.grid.specs.Spans.{spelt};
-ghost use Rattle.grid.specs.Finish.{node_if, child_from, roots, finish_at, trek, finish_path, finish_length, finish_below};
+ghost use Rattle.grid.specs.Finish.{node_if, child_from, roots, finish_at, trek_on, trek, finish_path, finish_length, finish_below};
 
 use crate::node::{Kept, Node};
-use crate::span::{Span, span_of};
-use filters::filter::Record;
+use filters::filter::{Prefix, Record};
 use kinds::address::Address;
 use kinds::cost::Cost;
 
@@ -17,21 +15,14 @@ use kinds::cost::Cost;
 fn look(nodes: &[Node], at: u32) -> Node
     ensures { result ≡ node_at nodes.now at }
 {
-    if (at as usize) < nodes.len() {
-        nodes[at as usize]
-    } else {
-        Node::Empty
-    }
+    nodes.get(at as usize).copied().unwrap_or(Node::Empty)
 }
 
 // The node at a place, where there is a place.
 fn look_if(nodes: &[Node], at: Option<u32>) -> Node
     ensures { result ≡ node_if nodes.now at }
 {
-    match at {
-        Some(at) => look(nodes, at),
-        None => Node::Empty,
-    }
+    at.map_or(Node::Empty, |at| look(nodes, at))
 }
 
 // The place of the child by a bit, or the place itself where there is no child.
@@ -42,57 +33,78 @@ fn child_from(nodes: &[Node], at: u32, bit: bool) -> u32
 }
 
 // The root of the source trie of a destination string, and that of the longest shorter one on the way to it.
-fn roots_of<A: Address>(nodes: &[Node], path: &Span<A>) -> (Option<u32>, Option<u32>)
-    requires short { path.now.length ≤ A.Address.WIDTH }
-    ensures { result ≡ roots nodes.now 0 None (spelt A.Address.string path.now) }
+fn roots_of<A: Address>(nodes: &[Node], path: &Prefix<A>) -> (Option<u32>, Option<u32>)
+    ensures { result ≡ roots nodes.now 0 None (prefix_of A.Address.string path.now) }
 {
     let mut at = 0;
     let mut last = None;
-    for i in 0..path.length {
+    for bit in path.bits() {
         last = look(nodes, at).source().or(last);
-        at = child_from(nodes, at, path.address.bit(i));
+        at = child_from(nodes, at, bit);
     }
     (look(nodes, at).source(), last)
 }
 
-// Finishes the node at a place, and says what it keeps then.
-fn finish_node(nodes: &mut [Node], at: u32, beside: Node, above: Option<Kept>) -> Option<Kept>
-    ensures memory { nodes.new ≡ slice_set nodes.old at (finish_in (node_at nodes.old at) beside above) }
-    ensures kept { result ≡ kept_of (finish_in (node_at nodes.old at) beside above) }
-{
-    let node = look(nodes, at).finished(beside, above);
-    if (at as usize) < nodes.len() {
-        nodes[at as usize] = node;
+// How far the finishing of a path has come: the place that was finished last, the node beside it, and what is kept there.
+#[derive(Clone, Copy)]
+struct Trek {
+    at: u32,
+    beside: Node,
+    kept: Option<Kept>,
+}
+
+impl Trek {
+    // Finishes the node at a place.
+    fn place(nodes: &mut [Node], at: u32, beside: Node, above: Option<Kept>) -> Trek
+        ensures { (nodes.new, result) ≡ finish_at nodes.old at beside above }
+    {
+        let node = look(nodes, at).finished(beside, above);
+        if (at as usize) < nodes.len() {
+            nodes[at as usize] = node;
+        }
+        Trek {
+            at,
+            beside,
+            kept: node.kept(),
+        }
     }
-    node.kept()
+
+    // Finishes the next node, by a bit.
+    fn onward(self, nodes: &mut [Node], bit: bool) -> Trek
+        ensures { (nodes.new, result) ≡ trek_on (nodes.old, self) bit }
+    {
+        let next = child_from(nodes, self.at, bit);
+        let beside = look_if(nodes, self.beside.next(bit));
+        Trek::place(nodes, next, beside, self.kept)
+    }
 }
 
 // Finishes the nodes of a source path, from the root of its trie on.
-fn finish_path<A: Address>(nodes: &mut [Node], top: u32, next_to: Node, path: &Span<A>)
-    requires short { path.now.length ≤ A.Address.WIDTH }
-    ensures { nodes.new ≡ (trek (finish_at nodes.old top next_to None) (spelt A.Address.string path.now)).memory }
+fn finish_path<A: Address>(nodes: &mut [Node], top: u32, beside: Node, path: &Prefix<A>)
+    ensures { nodes.new ≡ (trek (finish_at nodes.old top beside None) (prefix_of A.Address.string path.now)).0 }
 {
-    let mut at = top;
-    let mut beside = next_to;
-    let mut above = finish_node(nodes, at, beside, None);
-    for i in 0..path.length {
-        let bit = path.address.bit(i);
-        at = child_from(nodes, at, bit);
-        beside = look_if(nodes, beside.next(bit));
-        above = finish_node(nodes, at, beside, above);
+    let mut trek = Trek::place(nodes, top, beside, None);
+    for bit in path.bits() {
+        trek = trek.onward(nodes, bit);
     }
 }
 
 // Finishes the source path of a filter.
-fn finish<D: Address, S: Address>(nodes: &mut [Node], to: &Span<D>, from: &Span<S>)
-    requires short { (to.now.length ≤ D.Address.WIDTH) × (from.now.length ≤ S.Address.WIDTH) }
-    ensures { nodes.new ≡ finish_path nodes.old (spelt D.Address.string to.now) (spelt S.Address.string from.now) }
+fn finish<D: Address, S: Address>(nodes: &mut [Node], to: &Prefix<D>, from: &Prefix<S>)
+    ensures { nodes.new ≡ finish_path nodes.old (prefix_of D.Address.string to.now) (prefix_of S.Address.string from.now) }
 {
     let (top, last) = roots_of(nodes, to);
     if let Some(top) = top {
         let beside = look_if(nodes, last);
         finish_path(nodes, top, beside, from);
     }
+}
+
+// How many bits a prefix has that is kept as a pattern.
+fn bits_of<A: Address>(kept: &Prefix<A::Pattern>) -> u32
+    ensures { result ≡ length (prefix_of A.Address.spells kept.now) }
+{
+    (kept.length as u32).min(A::WIDTH)
 }
 
 // Finishes what a place holds, if it holds a filter whose destination has so many bits.
@@ -103,9 +115,9 @@ fn finish_record<D: Address, S: Address, C: Cost>(
 )
     ensures { nodes.new ≡ finish_length size nodes.old (held D.Address.spells S.Address.spells C.Written.reads place.now) }
 {
-    let to = span_of::<D>(place.destination);
-    if C::read(place.cost).is_ok() && to.length == size {
-        let from = span_of::<S>(place.source);
+    if C::read(place.cost).is_ok() && bits_of::<D>(&place.destination) == size {
+        let to = Prefix::<D>::of(&place.destination);
+        let from = Prefix::<S>::of(&place.source);
         finish(nodes, &to, &from);
     }
 }
@@ -124,13 +136,22 @@ fn finish_length<D: Address, S: Address, C: Cost>(
 }
 
 // Finishes all filters, the shorter destinations first.
-pub(crate) fn finish_all<D: Address, S: Address, C: Cost>(
-    nodes: &mut [Node],
-    records: &[Record<D, S, C>],
-)
+fn finish_all<D: Address, S: Address, C: Cost>(nodes: &mut [Node], records: &[Record<D, S, C>])
     ensures { nodes.new ≡ finish_below (D.Address.WIDTH + 1) nodes.old (rules D.Address.spells S.Address.spells C.Written.reads records.now) }
 {
-    for size in 0..D::WIDTH + 1 {
+    for size in 0..=D::WIDTH {
         finish_length::<D, S, C>(nodes, records, size);
     }
+}
+
+// Finishes all filters in the first `count` places.
+pub(crate) fn finish_first<D: Address, S: Address, C: Cost>(
+    nodes: &mut [Node],
+    count: usize,
+    records: &[Record<D, S, C>],
+)
+    requires { count ≤ length nodes.old }
+    ensures { nodes.new ≡ finish_below (D.Address.WIDTH + 1) (take count nodes.old) (rules D.Address.spells S.Address.spells C.Written.reads records.now) ++ drop count nodes.old }
+{
+    finish_all::<D, S, C>(&mut nodes[..count], records);
 }

@@ -27,9 +27,7 @@ pub(crate) fn empty_first(nodes: &mut [Node], count: usize)
     requires { count ≤ length nodes.old }
     ensures { nodes.new ≡ replicate count Empty ++ drop count nodes.old }
 {
-    for i in 0..count {
-        nodes[i] = Node::Empty;
-    }
+    nodes[..count].fill(Node::Empty);
 }
 
 impl<'m, D: Address, S: Address, C: Cost> Grid<'m, D, S, C> {

@@ -9,5 +9,4 @@ pub mod grid;
 mod insert;
 pub mod node;
 pub mod search;
-mod span;
 pub mod trail;

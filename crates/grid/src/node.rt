@@ -1,6 +1,6 @@
 // A node of the grid. How it is laid out is known in this file alone; all else goes by the readings.
 ghost use Rattle.std.specs.Prelude.{◌≡◌, ℕ};
-ghost use Rattle.grid.specs.Nodes.{child_of, switch_of, next_of, root_of, kept_of, pick_kept};
+ghost use Rattle.grid.specs.Nodes.{no_links, link_by, link_with, child_of, switch_of, next_of, root_of, kept_of, pick_kept};
 
 use filters::directive::Directive;
 use std::mem::size_of;
@@ -13,22 +13,51 @@ pub struct Kept {
     pub directive: Directive,
 }
 
-// Links are places in the memory of nodes. Empty stands where there is no node.
+// Links by bit 0 and 1: places in the memory of nodes.
+#[derive(Clone, Copy)]
+pub struct Links {
+    pub zero: Option<u32>,
+    pub one: Option<u32>,
+}
+
+impl Links {
+    // No links.
+    pub(crate) const NONE: Links = Links {
+        zero: None,
+        one: None,
+    };
+
+    // The link by a bit.
+    pub(crate) fn by(self, bit: bool) -> Option<u32>
+        ensures { result ≡ link_by self bit }
+    {
+        if bit { self.one } else { self.zero }
+    }
+
+    // The links with another by a bit.
+    pub(crate) fn with(self, bit: bool, to: u32) -> Links
+        ensures { result ≡ link_with self bit to }
+    {
+        Links {
+            zero: if bit { self.zero } else { Some(to) },
+            one: if bit { Some(to) } else { self.one },
+        }
+    }
+}
+
+// Empty stands where there is no node.
 #[derive(Clone, Copy)]
 pub enum Node {
     Empty,
-    // its children by bit 0 and 1, and the root of its source trie
+    // its children, and the root of its source trie
     Destination {
-        zero: Option<u32>,
-        one: Option<u32>,
+        children: Links,
         source: Option<u32>,
     },
-    // its children and its switches by bit 0 and 1, and what it keeps
+    // its children, its switches, and what it keeps
     Source {
-        zero: Option<u32>,
-        one: Option<u32>,
-        switch_zero: Option<u32>,
-        switch_one: Option<u32>,
+        children: Links,
+        switches: Links,
         kept: Option<Kept>,
     },
 }
@@ -47,8 +76,8 @@ impl Node {
     {
         match self {
             Node::Empty => None,
-            Node::Destination { zero, one, .. } => if bit { one } else { zero },
-            Node::Source { zero, one, .. } => if bit { one } else { zero },
+            Node::Destination { children, .. } => children.by(bit),
+            Node::Source { children, .. } => children.by(bit),
         }
     }
 
@@ -57,11 +86,7 @@ impl Node {
         ensures { result ≡ switch_of self bit }
     {
         match self {
-            Node::Source {
-                switch_zero,
-                switch_one,
-                ..
-            } => if bit { switch_one } else { switch_zero },
+            Node::Source { switches, .. } => switches.by(bit),
             _ => None,
         }
     }
@@ -70,10 +95,7 @@ impl Node {
     pub(crate) fn next(self, bit: bool) -> Option<u32>
         ensures { result ≡ next_of self bit }
     {
-        match self.child(bit) {
-            Some(at) => Some(at),
-            None => self.switch_to(bit),
-        }
+        self.child(bit).or_else(|| self.switch_to(bit))
     }
 
     // The root of the source trie that a destination node leads to.
@@ -103,11 +125,7 @@ pub(crate) fn pick_kept(first: Option<Kept>, second: Option<Kept>) -> Option<Kep
 {
     match (first, second) {
         (None, other) => other,
-        (Some(one), None) => Some(one),
-        (Some(one), Some(other)) => if other.standing < one.standing {
-            Some(other)
-        } else {
-            Some(one)
-        },
+        (Some(one), Some(other)) if other.standing < one.standing => second,
+        _ => first,
     }
 }

@@ -1,15 +1,19 @@
 // What memory holds before anyone writes it: here, records and nodes that would mislead whoever trusted them.
 use filters::directive::Directive;
 use filters::filter::{Filter, Prefix};
-use grid::node::{Kept, Node};
+use grid::node::{Kept, Links, Node};
 
 // A source node with both children, both switches and a kept filter that nothing beats.
 pub fn node() -> Node {
     Node::Source {
-        zero: Some(1),
-        one: Some(2),
-        switch_zero: Some(0),
-        switch_one: Some(1),
+        children: Links {
+            zero: Some(1),
+            one: Some(2),
+        },
+        switches: Links {
+            zero: Some(0),
+            one: Some(1),
+        },
         kept: Some(Kept {
             label: 999,
             standing: 0,

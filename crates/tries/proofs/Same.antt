@@ -127,12 +127,12 @@ module _ {A : Type 0} (eq : A → A → Bool) (whole : (x y : A) → eq x y ≡ 
 
 -- ---- the number of nodes
 
-in_append_left : {A : Type 0} (y : A) (xs ys : List A) → In y xs → In y (xs ++ ys)
+pub in_append_left : {A : Type 0} (y : A) (xs ys : List A) → In y xs → In y (xs ++ ys)
 in_append_left y [] ys h = absurd h
 in_append_left y (x ∷ xs) ys (inl e) = inl e
 in_append_left y (x ∷ xs) ys (inr h) = inr (in_append_left y xs ys h)
 
-in_append_right : {A : Type 0} (y : A) (xs ys : List A) → In y ys → In y (xs ++ ys)
+pub in_append_right : {A : Type 0} (y : A) (xs ys : List A) → In y ys → In y (xs ++ ys)
 in_append_right y [] ys h = h
 in_append_right y (x ∷ xs) ys h = inr (in_append_right y xs ys h)
 

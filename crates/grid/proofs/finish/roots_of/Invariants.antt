@@ -1,9 +1,7 @@
-use Rattle.std.proofs.Common.{◌≡◌, drop, None}
-use Rattle.grid.specs.Spans.{spelt}
+use Rattle.std.proofs.Common.{◌≡◌, None}
 use Rattle.grid.specs.Finish.{roots}
 use Rattle.grid.proofs.finish.roots_of.Given as goal
 
 -- what is left of the string leads on from here
-abbrev pub invariant-loop-i : goal.invariant-loop-i
-invariant-loop-i g l =
-    roots l.nodes l.at l.last (drop l.i (spelt g.A.Address.string l.path)) ≡ roots l.nodes 0 None (spelt g.A.Address.string l.path)
+abbrev pub invariant-loop-bit : goal.invariant-loop-bit
+invariant-loop-bit g l = roots l.nodes l.at l.last l.bit-iterator ≡ roots l.nodes 0 None l.initial.bit-iterator

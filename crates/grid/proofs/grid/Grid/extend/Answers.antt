@@ -1,0 +1,42 @@
+use Rattle.std.proofs.Common.{◌+◌, set, sym, subst}
+use Rattle.grid.specs.declared.node.Node.{Node}
+use Rattle.grid.specs.Nodes.{node_at}
+use Rattle.grid.specs.Edits.{lead_of}
+use Rattle.grid.specs.Derived.{key_eq}
+use Rattle.grid.specs.Build.{Safe, Grown, reached}
+use Rattle.grid.proofs.Growth.{extend_there, extend_new}
+use Rattle.grid.proofs.Sound.{sound_at, within_lt}
+use Rattle.grid.proofs.Safety.{lead_within, safe_grown}
+use Rattle.grid.proofs.grid.Grid.extend.Goals as goal
+
+pub invariant_of-self-in-None : goal.invariant_of-self-in-None
+invariant_of-self-in-None g c =
+    let self = c.args.self.now in
+    let N = self.nodes.now in
+    let b = c.bud.ensures in
+    let l = c.leading.ensures in
+    let s = subst (λ (z : Node × Node). Safe (self.used + 1) (set (set N self.used z.0) c.args.at z.1)) (λ j. (sym b j, sym l j))
+    (safe_grown self.used N c.args.at c.args.way (record { fits = self.fits; linked = self.linked; rest = self.rest }) c.requires.room.0 c.requires.start) in
+    record { fits = s.fits; linked = s.linked; rest = s.rest }
+
+pub returns-in-Some-clause-found : goal.returns-in-Some-clause-found
+returns-in-Some-clause-found g c =
+    let self = c.args.self.now in
+    let n = node_at self.nodes.now c.args.at in
+    within_lt self.used c.in-Some.next (lead_of n c.args.way) (lead_within self.used n c.args.way (sound_at self.used self.nodes.now c.args.at self.linked)) c.in-Some.ensures
+
+pub returns-in-Some-clause-grid : goal.returns-in-Some-clause-grid
+returns-in-Some-clause-grid g c =
+    let self = c.args.self.now in
+    λ own keys k st e h. extend_there own keys self.nodes.now self.used st k c.args.way c.args.at c.in-Some.next e h c.in-Some.ensures
+
+pub returns-in-None-clause-grid : goal.returns-in-None-clause-grid
+returns-in-None-clause-grid g c =
+    let self = c.args.self.now in
+    let N = self.nodes.now in
+    let b = c.bud.ensures in
+    let l = c.leading.ensures in
+    λ own keys k st e h.
+    subst (λ (z : Node × Node). Grown own keys (λ m. key_eq m (reached k c.args.way)) (reached k c.args.way) (set (set N self.used z.0) c.args.at z.1) (self.used + 1) self.used)
+    (λ j. (sym b j, sym l j))
+    (extend_new own keys N self.used st k c.args.way c.args.at e h c.in-None.ensures c.requires.room.0)
