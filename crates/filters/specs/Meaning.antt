@@ -4,7 +4,6 @@ use Rattle.std.specs.declared.cmp.Ordering.{Ordering}
 use Rattle.kinds.specs.Strings.{Str}
 use Rattle.filters.specs.declared.filter.Prefix.{Prefix}
 use Rattle.filters.specs.declared.filter.Filter.{Filter}
-use Rattle.filters.specs.Meaning.{Record}
 use Rattle.filters.specs.Rules.{Rule, by_cost, count}
 
 -- a place keeps a filter by the patterns of its addresses and its cost

@@ -13,12 +13,7 @@ use kinds::cost::Cost;
 fn has_bit_from<A: Address>(address: &A, first: u32) -> bool
     ensures { result ≡ stray first (A.Address.string address.now) }
 {
-    for i in first..A::WIDTH {
-        if address.bit(i) {
-            return true;
-        }
-    }
-    false
+    Bits::of(address).skip(first as usize).any(|bit| bit)
 }
 
 // Whether a bit is set behind the prefix's length.

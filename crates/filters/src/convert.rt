@@ -11,9 +11,7 @@ use kinds::cost::Cost;
 use kinds::written::PatternFault;
 
 // The record that keeps a filter.
-pub fn to_record<D: Address, S: Address, C: Cost>(
-    filter: &Filter<D, S, C>,
-) -> Record<D, S, C>
+pub fn to_record<D: Address, S: Address, C: Cost>(filter: &Filter<D, S, C>) -> Record<D, S, C>
     ensures { result ≡ record_of D.Written.pattern S.Written.pattern C.Written.pattern filter.now }
 {
     Filter {

@@ -67,14 +67,9 @@ pub fn linear_search<D: Address, S: Address, C: Cost>(
     best
 }
 
-// 1 where a place holds a filter that is better than one of this cost and label, else 0.
-fn ahead<D: Address, S: Address, C: Cost>(
-    place: &Record<D, S, C>,
-    cost: &C,
-    label: u16,
-) -> usize
-    ensures counted { result ≡ standing_of C.Cost.order (held D.Address.spells S.Address.spells C.Written.reads place.now) cost.now label }
-    ensures one { result ≤ 1 }
+// Whether a place holds a filter that is better than one of this cost and label.
+fn is_ahead<D: Address, S: Address, C: Cost>(place: &Record<D, S, C>, cost: &C, label: u16) -> bool
+    ensures { (if result then 1 else 0) ≡ standing_of C.Cost.order (held D.Address.spells S.Address.spells C.Written.reads place.now) cost.now label }
 {
     C::read(place.cost).is_ok_and(|other| other.compare(cost).then(place.label.cmp(&label)).is_lt())
 }

@@ -104,8 +104,8 @@ impl<'b, 'g, 'f, 'n, D: Address, S: Address, C: Cost> Gateway<'b, 'g, 'f, 'n, D,
 
     // The best built filter that matches the two addresses, by its label and directive, and how many nodes were visited.
     pub fn classify(&self, destination: &D, source: &S) -> (Option<(u16, Directive)>, u32)
-        ensures answer { (l : Left C) → After (kinds_of D.Address.own D.Written D.Pattern.Plain S.Address.own S.Written S.Pattern.Plain C.Cost.own C.Written C.Pattern.Plain) l self.now → result ≡ answer_of (kinds_of D.Address.own D.Written D.Pattern.Plain S.Address.own S.Written S.Pattern.Plain C.Cost.own C.Written C.Pattern.Plain) l.built (D.Address.string destination.now) (S.Address.string source.now) }
-        ensures right { (l : Left C) → After (kinds_of D.Address.own D.Written D.Pattern.Plain S.Address.own S.Written S.Pattern.Plain C.Cost.own C.Written C.Pattern.Plain) l self.now → Right C.Cost.order D.Address.WIDTH S.Address.WIDTH l.built (D.Address.string destination.now) (S.Address.string source.now) result }
+        ensures answer { (l : Left C) → After (kinds_in self.now) l self.now → result ≡ answer_of (kinds_in self.now) l.built (D.Address.string destination.now) (S.Address.string source.now) }
+        ensures right { (l : Left C) → After (kinds_in self.now) l self.now → Right C.Cost.order D.Address.WIDTH S.Address.WIDTH l.built (D.Address.string destination.now) (S.Address.string source.now) result }
     {
         self.grid.classify(destination, source)
     }
@@ -118,9 +118,9 @@ impl<'b, 'g, 'f, 'n, D: Address, S: Address, C: Cost> Gateway<'b, 'g, 'f, 'n, D,
         source: &S,
         trail: &mut [u32],
     ) -> Result<(Option<(u16, Directive)>, u32), TrailFault>
-        ensures answer { (l : Left C) → After (kinds_of D.Address.own D.Written D.Pattern.Plain S.Address.own S.Written S.Pattern.Plain C.Cost.own C.Written C.Pattern.Plain) l self.now → result ≡ trail_verdict (length trail.old) D.Address.WIDTH S.Address.WIDTH (answer_of (kinds_of D.Address.own D.Written D.Pattern.Plain S.Address.own S.Written S.Pattern.Plain C.Cost.own C.Written C.Pattern.Plain) l.built (D.Address.string destination.now) (S.Address.string source.now)) }
-        ensures right { (l : Left C) → After (kinds_of D.Address.own D.Written D.Pattern.Plain S.Address.own S.Written S.Pattern.Plain C.Cost.own C.Written C.Pattern.Plain) l self.now → MatchResult result (λ a. Right C.Cost.order D.Address.WIDTH S.Address.WIDTH l.built (D.Address.string destination.now) (S.Address.string source.now) a) (λ _. length trail.old < D.Address.WIDTH + S.Address.WIDTH + 2) }
-        ensures memory { Writes (kinds_of D.Address.own D.Written D.Pattern.Plain S.Address.own S.Written S.Pattern.Plain C.Cost.own C.Written C.Pattern.Plain) (Trail destination.now source.now) self.now trail.old trail.new }
+        ensures answer { (l : Left C) → After (kinds_in self.now) l self.now → result ≡ trail_verdict (length trail.old) D.Address.WIDTH S.Address.WIDTH (answer_of (kinds_in self.now) l.built (D.Address.string destination.now) (S.Address.string source.now)) }
+        ensures right { (l : Left C) → After (kinds_in self.now) l self.now → MatchResult result (λ a. Right C.Cost.order D.Address.WIDTH S.Address.WIDTH l.built (D.Address.string destination.now) (S.Address.string source.now) a) (λ _. length trail.old < D.Address.WIDTH + S.Address.WIDTH + 2) }
+        ensures memory { Writes (kinds_in self.now) (Trail destination.now source.now) self.now trail.old trail.new }
         ensures same { length trail.old < D.Address.WIDTH + S.Address.WIDTH + 2 → trail.new ≡ trail.old }
     {
         self.grid.trail(destination, source, trail)

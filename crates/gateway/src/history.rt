@@ -46,8 +46,8 @@ fn make_call<D: Address, S: Address, C: Cost>(
     call: &Call<D, S, C>,
     trail: &mut [u32],
 )
-    ensures history { Follows (kinds_of D.Address.own D.Written D.Pattern.Plain S.Address.own S.Written S.Pattern.Plain C.Cost.own C.Written C.Pattern.Plain) call.now gateway.old gateway.new }
-    ensures memory { Writes (kinds_of D.Address.own D.Written D.Pattern.Plain S.Address.own S.Written S.Pattern.Plain C.Cost.own C.Written C.Pattern.Plain) call.now gateway.old trail.old trail.new }
+    ensures history { Follows (kinds_in gateway.old) call.now gateway.old gateway.new }
+    ensures memory { Writes (kinds_in gateway.old) call.now gateway.old trail.old trail.new }
     ensures same { length trail.old < D.Address.WIDTH + S.Address.WIDTH + 2 → trail.new ≡ trail.old }
 {
     match call {

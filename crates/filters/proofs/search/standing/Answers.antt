@@ -1,6 +1,4 @@
-use Rattle.std.proofs.Common.{ℕ, ◌+◌, ltb, List, sym, ap, ◌∙◌, add-zero, zero-add, arith}
-use Rattle.std.proofs.lemmas.List.{at_drop_all}
-use Rattle.filters.specs.Meaning.{Record}
+use Rattle.std.proofs.Common.{ltb, sym, ◌∙◌, arith}
 use Rattle.filters.specs.Rules.{Rule, by_cost}
 use Rattle.filters.proofs.Reading.{counted, count_step}
 use Rattle.filters.proofs.search.standing.Goals as goal
