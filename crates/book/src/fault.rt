@@ -36,7 +36,7 @@ impl From<FilterFault> for AddFault {
 #[derive(Clone, Copy, PartialEq, Eq, Debug)]
 pub enum WithdrawFault {
     // no filter of the book has the label
-    UnknownLabel,
+    UnknownLabel = 7,
 }
 
 impl WithdrawFault {
@@ -44,8 +44,6 @@ impl WithdrawFault {
     pub fn number(self) -> u8
         ensures { result ≡ withdraw_number self }
     {
-        match self {
-            WithdrawFault::UnknownLabel => 7,
-        }
+        self as u8
     }
 }

@@ -21,7 +21,7 @@ use kinds::cost::Cost;
 #[derive(Clone, Copy, PartialEq, Eq, Debug)]
 pub enum BuildFault {
     // the node places are fewer than so many filters may need
-    Places,
+    Places = 8,
 }
 
 impl BuildFault {
@@ -29,9 +29,7 @@ impl BuildFault {
     pub fn number(self) -> u8
         ensures { result ≡ build_number self }
     {
-        match self {
-            BuildFault::Places => 8,
-        }
+        self as u8
     }
 }
 

@@ -18,7 +18,7 @@ use kinds::cost::Cost;
 #[derive(Clone, Copy, PartialEq, Eq, Debug)]
 pub enum TrailFault {
     // the trail has fewer places than a search may visit nodes
-    Places,
+    Places = 9,
 }
 
 impl TrailFault {
@@ -26,9 +26,7 @@ impl TrailFault {
     pub fn number(self) -> u8
         ensures { result ≡ trail_number self }
     {
-        match self {
-            TrailFault::Places => 9,
-        }
+        self as u8
     }
 }
 

@@ -5,15 +5,15 @@ ghost use Rattle.packets.specs.Refusals.{number_of};
 #[derive(Clone, Copy, PartialEq, Eq, Debug)]
 pub enum PacketFault {
     // fewer bytes than the shortest header
-    Short,
+    Short = 10,
     // the version is not 4
-    Version,
+    Version = 11,
     // the header is shorter than five words
-    HeaderLength,
+    HeaderLength = 12,
     // the total length is below the header's or above the bytes there are
-    TotalLength,
+    TotalLength = 13,
     // the header's checksum is wrong
-    Checksum,
+    Checksum = 14,
 }
 
 impl PacketFault {
@@ -21,12 +21,6 @@ impl PacketFault {
     pub fn number(self) -> u8
         ensures { result ≡ number_of self }
     {
-        match self {
-            PacketFault::Short => 10,
-            PacketFault::Version => 11,
-            PacketFault::HeaderLength => 12,
-            PacketFault::TotalLength => 13,
-            PacketFault::Checksum => 14,
-        }
+        self as u8
     }
 }

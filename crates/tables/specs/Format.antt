@@ -1,6 +1,7 @@
 -- The byte format of a table: a head, then records, fields packed without gaps, the most significant bit first.
 -- Reading and writing are two definitions apart; that they are inverse is proved of them.
 use Rattle.std.specs.Prelude.{ℕ, zero, suc, ◌+◌, ◌*◌, ◌/◌, List, [], ◌∷◌, ◌++◌, length, take, drop}
+use Rattle.kinds.specs.declared.written.Written as Written
 use Rattle.filters.specs.Meaning.{Record}
 use Rattle.filters.specs.Meaning.{respelt}
 use Rattle.tables.specs.Bytes.{word, spelt, total, numbers, spell, fields, pack, nth}
@@ -13,6 +14,10 @@ pub record Kind : Type 0 where
 
 abbrev pub kind : ℕ → ℕ → Kind
 kind code size = record { code = code; size = size }
+
+-- what a table says of a written kind
+abbrev pub kind_of : {X P : Type 0} → Written.Ghosts X P → Kind
+kind_of w = kind w.CODE w.SIZE
 
 -- a filter as a table has it: addresses and cost are the numbers of their patterns
 abbrev pub Entry : Type 0

@@ -3,7 +3,7 @@ ghost use Rattle.std.specs.Prelude.{◌≡◌, ℕ, ◌+◌, ◌*◌, ◌<◌, �
 ghost use Rattle.kinds.specs.Strings.{bits};
 ghost use Rattle.filters.specs.Meaning.{respelt};
 ghost use Rattle.filters.specs.Refusals.{body_verdict};
-ghost use Rattle.tables.specs.Format.{kind, entry_of, filter_count, table_size, record_size, entries};
+ghost use Rattle.tables.specs.Format.{kind_of, entry_of, filter_count, table_size, record_size, entries};
 ghost use Rattle.tables.specs.Verdict.{Tells, has, labels, counted, behind_records, entry_verdict, entries_verdict, head_verdict, table_verdict};
 
 use crate::fault::{HeadFault, InRecord, LoadFault, RecordFault};
@@ -26,15 +26,11 @@ fn check_prefixes<D: Address, S: Address>(
 ) -> Result<(), FilterFault>
     ensures { result ≡ body_verdict (bits D.Written.SIZE) (bits S.Written.SIZE) D.Written.SIZE S.Written.SIZE (respelt D.Written.number destination.now) (respelt S.Written.number source.now) directive }
 {
-    let first = Prefix {
-        address: D::of(destination.address),
-        length: destination.length,
-    };
-    let second = Prefix {
-        address: S::of(source.address),
-        length: source.length,
-    };
-    check_body(&first, &second, directive)
+    check_body(
+        &Prefix::<D>::of(destination),
+        &Prefix::<S>::of(source),
+        directive,
+    )
 }
 
 // The first refusal of a record; `used` says whether its label is in use already.
@@ -42,8 +38,8 @@ fn check_record<D: Address, S: Address, C: Cost>(
     place: &Record<D, S, C>,
     used: bool,
 ) -> Result<(), RecordFault>
-    ensures answer { (lawful : ℕ → Bool) → Tells C.Written.number C.Written.reads lawful → result ≡ entry_verdict (kind D.Written.CODE D.Written.SIZE) (kind S.Written.CODE S.Written.SIZE) (kind C.Written.CODE C.Written.SIZE) lawful used (entry_of D.Written.number S.Written.number C.Written.number place.now) }
-    ensures passed { OnOk result (entry_verdict (kind D.Written.CODE D.Written.SIZE) (kind S.Written.CODE S.Written.SIZE) (kind C.Written.CODE C.Written.SIZE) (λ _. true) used (entry_of D.Written.number S.Written.number C.Written.number place.now) ≡ Ok tt) }
+    ensures answer { (lawful : ℕ → Bool) → Tells C.Written.number C.Written.reads lawful → result ≡ entry_verdict (kind_of D.Written) (kind_of S.Written) (kind_of C.Written) lawful used (entry_of D.Written.number S.Written.number C.Written.number place.now) }
+    ensures passed { OnOk result (entry_verdict (kind_of D.Written) (kind_of S.Written) (kind_of C.Written) (λ _. true) used (entry_of D.Written.number S.Written.number C.Written.number place.now) ≡ Ok tt) }
 {
     if place.label == 0 {
         return Err(RecordFault::Filter(FilterFault::ZeroLabel));
@@ -58,7 +54,7 @@ fn check_record<D: Address, S: Address, C: Cost>(
 
 // Whether one of the records has the label.
 fn is_label_in<D: Address, S: Address, C: Cost>(records: &[u8], label: u16) -> bool
-    ensures { result ≡ has label (labels (entries (kind D.Written.CODE D.Written.SIZE) (kind S.Written.CODE S.Written.SIZE) (kind C.Written.CODE C.Written.SIZE) records.now)) }
+    ensures { result ≡ has label (labels (entries (kind_of D.Written) (kind_of S.Written) (kind_of C.Written) records.now)) }
 {
     records
         .chunks_exact(record_size::<D, S, C>())
@@ -78,9 +74,9 @@ fn in_record(i: usize, answer: Result<(), RecordFault>) -> Result<(), InRecord>
 
 // The first refusal of records, if there is one.
 fn check_records<D: Address, S: Address, C: Cost>(records: &[u8]) -> Result<(), InRecord>
-    requires { length (entries (kind D.Written.CODE D.Written.SIZE) (kind S.Written.CODE S.Written.SIZE) (kind C.Written.CODE C.Written.SIZE) records.now) ≤ 4095 }
-    ensures answer { (lawful : ℕ → Bool) → Tells C.Written.number C.Written.reads lawful → behind_records (length (entries (kind D.Written.CODE D.Written.SIZE) (kind S.Written.CODE S.Written.SIZE) (kind C.Written.CODE C.Written.SIZE) records.now)) result ≡ entries_verdict (kind D.Written.CODE D.Written.SIZE) (kind S.Written.CODE S.Written.SIZE) (kind C.Written.CODE C.Written.SIZE) lawful [] (entries (kind D.Written.CODE D.Written.SIZE) (kind S.Written.CODE S.Written.SIZE) (kind C.Written.CODE C.Written.SIZE) records.now) }
-    ensures passed { OnOk result (entries_verdict (kind D.Written.CODE D.Written.SIZE) (kind S.Written.CODE S.Written.SIZE) (kind C.Written.CODE C.Written.SIZE) (λ _. true) [] (entries (kind D.Written.CODE D.Written.SIZE) (kind S.Written.CODE S.Written.SIZE) (kind C.Written.CODE C.Written.SIZE) records.now) ≡ Ok (length (entries (kind D.Written.CODE D.Written.SIZE) (kind S.Written.CODE S.Written.SIZE) (kind C.Written.CODE C.Written.SIZE) records.now))) }
+    requires { length (entries (kind_of D.Written) (kind_of S.Written) (kind_of C.Written) records.now) ≤ 4095 }
+    ensures answer { (lawful : ℕ → Bool) → Tells C.Written.number C.Written.reads lawful → behind_records (length (entries (kind_of D.Written) (kind_of S.Written) (kind_of C.Written) records.now)) result ≡ entries_verdict (kind_of D.Written) (kind_of S.Written) (kind_of C.Written) lawful [] (entries (kind_of D.Written) (kind_of S.Written) (kind_of C.Written) records.now) }
+    ensures passed { OnOk result (entries_verdict (kind_of D.Written) (kind_of S.Written) (kind_of C.Written) (λ _. true) [] (entries (kind_of D.Written) (kind_of S.Written) (kind_of C.Written) records.now) ≡ Ok (length (entries (kind_of D.Written) (kind_of S.Written) (kind_of C.Written) records.now))) }
 {
     let size = record_size::<D, S, C>();
     for (i, record) in records.chunks_exact(size).enumerate() {
@@ -96,7 +92,7 @@ fn check_head<D: Address, S: Address, C: Cost>(
     bytes: &[u8],
     capacity: usize,
 ) -> Result<usize, HeadFault>
-    ensures { result ≡ head_verdict (kind D.Written.CODE D.Written.SIZE) (kind S.Written.CODE S.Written.SIZE) (kind C.Written.CODE C.Written.SIZE) capacity bytes.now }
+    ensures { result ≡ head_verdict (kind_of D.Written) (kind_of S.Written) (kind_of C.Written) capacity bytes.now }
 {
     if bytes.len() < 4 {
         return Err(HeadFault::Short);
@@ -126,8 +122,8 @@ pub fn check_table<D: Address, S: Address, C: Cost>(
     bytes: &[u8],
     capacity: usize,
 ) -> Result<usize, LoadFault>
-    ensures answer { (lawful : ℕ → Bool) → Tells C.Written.number C.Written.reads lawful → result ≡ table_verdict (kind D.Written.CODE D.Written.SIZE) (kind S.Written.CODE S.Written.SIZE) (kind C.Written.CODE C.Written.SIZE) lawful capacity bytes.now }
-    ensures accepted { IfOk result (λ n. (n ≡ filter_count bytes.now) × (length bytes.now ≡ table_size (kind D.Written.CODE D.Written.SIZE) (kind S.Written.CODE S.Written.SIZE) (kind C.Written.CODE C.Written.SIZE) n) × (n ≤ capacity) × (table_verdict (kind D.Written.CODE D.Written.SIZE) (kind S.Written.CODE S.Written.SIZE) (kind C.Written.CODE C.Written.SIZE) (λ _. true) capacity bytes.now ≡ Ok n)) }
+    ensures answer { (lawful : ℕ → Bool) → Tells C.Written.number C.Written.reads lawful → result ≡ table_verdict (kind_of D.Written) (kind_of S.Written) (kind_of C.Written) lawful capacity bytes.now }
+    ensures accepted { IfOk result (λ n. (n ≡ filter_count bytes.now) × (length bytes.now ≡ table_size (kind_of D.Written) (kind_of S.Written) (kind_of C.Written) n) × (n ≤ capacity) × (table_verdict (kind_of D.Written) (kind_of S.Written) (kind_of C.Written) (λ _. true) capacity bytes.now ≡ Ok n)) }
 {
     let count = check_head::<D, S, C>(bytes, capacity)?;
     check_records::<D, S, C>(&bytes[4..])?;

@@ -11,13 +11,13 @@ use kinds::written::PatternFault;
 #[derive(Clone, Copy, PartialEq, Eq, Debug)]
 pub enum HeadFault {
     // too short for a head
-    Short,
+    Short = 15,
     // another edition or another kind
-    Kind,
+    Kind = 16,
     // the length is not that of the head and its records
-    Length,
+    Length = 17,
     // more filters than there is room for
-    Full,
+    Full = 6,
 }
 
 impl HeadFault {
@@ -25,12 +25,7 @@ impl HeadFault {
     pub fn number(self) -> u8
         ensures { result ≡ head_number self }
     {
-        match self {
-            HeadFault::Short => 15,
-            HeadFault::Kind => 16,
-            HeadFault::Length => 17,
-            HeadFault::Full => 6,
-        }
+        self as u8
     }
 }
 
@@ -127,7 +122,7 @@ impl LoadFault {
 #[derive(Clone, Copy, PartialEq, Eq, Debug)]
 pub enum WriteFault {
     // the buffer has no room for the table
-    Short,
+    Short = 19,
 }
 
 impl WriteFault {
@@ -135,8 +130,6 @@ impl WriteFault {
     pub fn number(self) -> u8
         ensures { result ≡ write_number self }
     {
-        match self {
-            WriteFault::Short => 19,
-        }
+        self as u8
     }
 }

@@ -1,7 +1,7 @@
 // One record: reading it, and writing it.
 ghost use Rattle.std.specs.Prelude.{◌≡◌, ℕ, ◌+◌, ◌/◌, ◌≤◌, length, take};
 ghost use Rattle.tables.specs.Bytes.{word};
-ghost use Rattle.tables.specs.Format.{kind, entry_of, record_size, decode_record, encode_record};
+ghost use Rattle.tables.specs.Format.{kind_of, entry_of, record_size, decode_record, encode_record};
 
 use crate::field::{pack_directive, unpack_directive};
 use crate::number::{number_of, pattern_of, put_number, put_pattern};
@@ -20,7 +20,7 @@ fn bytes_of<W: Written>() -> usize
 
 // How many bytes a record has.
 pub(crate) fn record_size<D: Address, S: Address, C: Cost>() -> usize
-    ensures size { result ≡ record_size (kind D.Written.CODE D.Written.SIZE) (kind S.Written.CODE S.Written.SIZE) (kind C.Written.CODE C.Written.SIZE) }
+    ensures size { result ≡ record_size (kind_of D.Written) (kind_of S.Written) (kind_of C.Written) }
     ensures short { result ≤ 56 }
 {
     8 + bytes_of::<D>() + bytes_of::<S>() + bytes_of::<C>()
@@ -35,11 +35,9 @@ pub(crate) fn label_of(record: &[u8]) -> u16
 }
 
 // The record that the bytes are.
-pub(crate) fn read_record<D: Address, S: Address, C: Cost>(
-    record: &[u8],
-) -> Record<D, S, C>
-    requires { length record.now ≡ record_size (kind D.Written.CODE D.Written.SIZE) (kind S.Written.CODE S.Written.SIZE) (kind C.Written.CODE C.Written.SIZE) }
-    ensures { entry_of D.Written.number S.Written.number C.Written.number result ≡ decode_record (kind D.Written.CODE D.Written.SIZE) (kind S.Written.CODE S.Written.SIZE) (kind C.Written.CODE C.Written.SIZE) record.now }
+pub(crate) fn read_record<D: Address, S: Address, C: Cost>(record: &[u8]) -> Record<D, S, C>
+    requires { length record.now ≡ record_size (kind_of D.Written) (kind_of S.Written) (kind_of C.Written) }
+    ensures { entry_of D.Written.number S.Written.number C.Written.number result ≡ decode_record (kind_of D.Written) (kind_of S.Written) (kind_of C.Written) record.now }
 {
     let (label, rest) = record.split_at(2);
     let (destination_length, rest) = rest.split_at(1);
@@ -67,8 +65,8 @@ pub(crate) fn put_record<D: Address, S: Address, C: Cost>(
     record: &mut [u8],
     place: &Record<D, S, C>,
 )
-    requires { length record.old ≡ record_size (kind D.Written.CODE D.Written.SIZE) (kind S.Written.CODE S.Written.SIZE) (kind C.Written.CODE C.Written.SIZE) }
-    ensures { record.new ≡ encode_record (kind D.Written.CODE D.Written.SIZE) (kind S.Written.CODE S.Written.SIZE) (kind C.Written.CODE C.Written.SIZE) (entry_of D.Written.number S.Written.number C.Written.number place.now) }
+    requires { length record.old ≡ record_size (kind_of D.Written) (kind_of S.Written) (kind_of C.Written) }
+    ensures { record.new ≡ encode_record (kind_of D.Written) (kind_of S.Written) (kind_of C.Written) (entry_of D.Written.number S.Written.number C.Written.number place.now) }
 {
     let (label, rest) = record.split_at_mut(2);
     let (destination_length, rest) = rest.split_at_mut(1);

@@ -3,7 +3,7 @@ ghost use Rattle.std.specs.Prelude.{◌≡◌, ℕ, ◌≤◌, Bool, List, map, 
 ghost use Rattle.tables.specs.declared.turn.TurnFault.TheVariants.{Load, Write};
 ghost use Rattle.filters.specs.declared.filter.Filter.{Filter};
 ghost use Rattle.filters.specs.Meaning.{record_of};
-ghost use Rattle.tables.specs.Format.{kind, entry_of, filter_count, encode, decode};
+ghost use Rattle.tables.specs.Format.{kind_of, entry_of, filter_count, encode, decode};
 ghost use Rattle.tables.specs.Laws.{Holds};
 ghost use Rattle.tables.specs.Memory.{write_verdict, written};
 ghost use Rattle.tables.specs.Turn.{load_turn, write_load, Placed, Into, Rewritten, Reloaded};
@@ -48,8 +48,8 @@ pub fn load_and_write<D: Address, S: Address, C: Cost>(
     places: &mut [Record<D, S, C>],
     buffer: &mut [u8],
 ) -> Result<usize, TurnFault>
-    ensures answer { (lawful : ℕ → Bool) → Tells C.Written.number C.Written.reads lawful → result ≡ load_turn (table_verdict (kind D.Written.CODE D.Written.SIZE) (kind S.Written.CODE S.Written.SIZE) (kind C.Written.CODE C.Written.SIZE) lawful (length places.old) bytes.now) (λ n. write_verdict (kind D.Written.CODE D.Written.SIZE) (kind S.Written.CODE S.Written.SIZE) (kind C.Written.CODE C.Written.SIZE) n (length buffer.old)) }
-    ensures places { Placed (entry_of D.Written.number S.Written.number C.Written.number) (decode (kind D.Written.CODE D.Written.SIZE) (kind S.Written.CODE S.Written.SIZE) (kind C.Written.CODE C.Written.SIZE) bytes.now) places.old places.new (filter_count bytes.now) result }
+    ensures answer { (lawful : ℕ → Bool) → Tells C.Written.number C.Written.reads lawful → result ≡ load_turn (table_verdict (kind_of D.Written) (kind_of S.Written) (kind_of C.Written) lawful (length places.old) bytes.now) (λ n. write_verdict (kind_of D.Written) (kind_of S.Written) (kind_of C.Written) n (length buffer.old)) }
+    ensures places { Placed (entry_of D.Written.number S.Written.number C.Written.number) (decode (kind_of D.Written) (kind_of S.Written) (kind_of C.Written) bytes.now) places.old places.new (filter_count bytes.now) result }
     ensures same { Rewritten bytes.now buffer.old buffer.new result }
 {
     let count = load_table::<D, S, C>(bytes, places)?;
@@ -63,9 +63,9 @@ pub fn write_and_load<D: Address, S: Address, C: Cost>(
     buffer: &mut [u8],
     into: &mut [Record<D, S, C>],
 ) -> Result<usize, TurnFault>
-    ensures answer { (lawful : ℕ → Bool) → Tells C.Written.number C.Written.reads lawful → result ≡ write_load (write_verdict (kind D.Written.CODE D.Written.SIZE) (kind S.Written.CODE S.Written.SIZE) (kind C.Written.CODE C.Written.SIZE) (length places.now) (length buffer.old)) (table_verdict (kind D.Written.CODE D.Written.SIZE) (kind S.Written.CODE S.Written.SIZE) (kind C.Written.CODE C.Written.SIZE) lawful (length into.old) (encode (kind D.Written.CODE D.Written.SIZE) (kind S.Written.CODE S.Written.SIZE) (kind C.Written.CODE C.Written.SIZE) (map (entry_of D.Written.number S.Written.number C.Written.number) places.now))) }
-    ensures bytes { buffer.new ≡ written (write_verdict (kind D.Written.CODE D.Written.SIZE) (kind S.Written.CODE S.Written.SIZE) (kind C.Written.CODE C.Written.SIZE) (length places.now) (length buffer.old)) (encode (kind D.Written.CODE D.Written.SIZE) (kind S.Written.CODE S.Written.SIZE) (kind C.Written.CODE C.Written.SIZE) (map (entry_of D.Written.number S.Written.number C.Written.number) places.now)) buffer.old }
-    ensures memory { Into (entry_of D.Written.number S.Written.number C.Written.number) (decode (kind D.Written.CODE D.Written.SIZE) (kind S.Written.CODE S.Written.SIZE) (kind C.Written.CODE C.Written.SIZE) (encode (kind D.Written.CODE D.Written.SIZE) (kind S.Written.CODE S.Written.SIZE) (kind C.Written.CODE C.Written.SIZE) (map (entry_of D.Written.number S.Written.number C.Written.number) places.now))) into.old into.new result }
+    ensures answer { (lawful : ℕ → Bool) → Tells C.Written.number C.Written.reads lawful → result ≡ write_load (write_verdict (kind_of D.Written) (kind_of S.Written) (kind_of C.Written) (length places.now) (length buffer.old)) (table_verdict (kind_of D.Written) (kind_of S.Written) (kind_of C.Written) lawful (length into.old) (encode (kind_of D.Written) (kind_of S.Written) (kind_of C.Written) (map (entry_of D.Written.number S.Written.number C.Written.number) places.now))) }
+    ensures bytes { buffer.new ≡ written (write_verdict (kind_of D.Written) (kind_of S.Written) (kind_of C.Written) (length places.now) (length buffer.old)) (encode (kind_of D.Written) (kind_of S.Written) (kind_of C.Written) (map (entry_of D.Written.number S.Written.number C.Written.number) places.now)) buffer.old }
+    ensures memory { Into (entry_of D.Written.number S.Written.number C.Written.number) (decode (kind_of D.Written) (kind_of S.Written) (kind_of C.Written) (encode (kind_of D.Written) (kind_of S.Written) (kind_of C.Written) (map (entry_of D.Written.number S.Written.number C.Written.number) places.now))) into.old into.new result }
     ensures same { (lawful : ℕ → Bool) → Tells C.Written.number C.Written.reads lawful → (fs : List (Filter D S C)) → places.now ≡ map (record_of D.Written.pattern S.Written.pattern C.Written.pattern) fs → Holds D.Address.string S.Address.string D.Address.WIDTH S.Address.WIDTH (length into.old) fs → Reloaded places.now into.old into.new result }
 {
     reads_back::<D, S, C>();

@@ -1,6 +1,6 @@
 // Writing a table.
 ghost use Rattle.std.specs.Prelude.{◌≡◌, ℕ, ◌*◌, ◌≤◌, ◌++◌, map, length, drop};
-ghost use Rattle.tables.specs.Format.{kind, entry_of, record_size, encode, encode_head, encode_records};
+ghost use Rattle.tables.specs.Format.{kind_of, entry_of, record_size, encode, encode_head, encode_records};
 ghost use Rattle.tables.specs.Memory.{write_verdict, written};
 
 use crate::fault::WriteFault;
@@ -15,7 +15,7 @@ use kinds::written::Written;
 // Writes the head of a table of `count` filters.
 fn put_head<D: Address, S: Address, C: Cost>(buffer: &mut [u8], count: u16)
     requires { length buffer.old ≡ 4 }
-    ensures { buffer.new ≡ encode_head (kind D.Written.CODE D.Written.SIZE) (kind S.Written.CODE S.Written.SIZE) (kind C.Written.CODE C.Written.SIZE) count }
+    ensures { buffer.new ≡ encode_head (kind_of D.Written) (kind_of S.Written) (kind_of C.Written) count }
 {
     let head = Head {
         edition: 1,
@@ -28,12 +28,9 @@ fn put_head<D: Address, S: Address, C: Cost>(buffer: &mut [u8], count: u16)
 }
 
 // Writes the records of places, one behind the other; later bytes stay.
-fn put_records<D: Address, S: Address, C: Cost>(
-    places: &[Record<D, S, C>],
-    records: &mut [u8],
-)
-    requires { length places.now * record_size (kind D.Written.CODE D.Written.SIZE) (kind S.Written.CODE S.Written.SIZE) (kind C.Written.CODE C.Written.SIZE) ≤ length records.old }
-    ensures { records.new ≡ encode_records (kind D.Written.CODE D.Written.SIZE) (kind S.Written.CODE S.Written.SIZE) (kind C.Written.CODE C.Written.SIZE) (map (entry_of D.Written.number S.Written.number C.Written.number) places.now) ++ drop (length places.now * record_size (kind D.Written.CODE D.Written.SIZE) (kind S.Written.CODE S.Written.SIZE) (kind C.Written.CODE C.Written.SIZE)) records.old }
+fn put_records<D: Address, S: Address, C: Cost>(places: &[Record<D, S, C>], records: &mut [u8])
+    requires { length places.now * record_size (kind_of D.Written) (kind_of S.Written) (kind_of C.Written) ≤ length records.old }
+    ensures { records.new ≡ encode_records (kind_of D.Written) (kind_of S.Written) (kind_of C.Written) (map (entry_of D.Written.number S.Written.number C.Written.number) places.now) ++ drop (length places.now * record_size (kind_of D.Written) (kind_of S.Written) (kind_of C.Written)) records.old }
 {
     let size = record_size::<D, S, C>();
     // A range by `i` and no `zip`: of bytes lent to a `chunks_exact_mut` the loop's proof has no name, and it does not close.
@@ -48,8 +45,8 @@ pub fn write_table<D: Address, S: Address, C: Cost>(
     places: &[Record<D, S, C>],
     buffer: &mut [u8],
 ) -> Result<usize, WriteFault>
-    ensures answer { result ≡ write_verdict (kind D.Written.CODE D.Written.SIZE) (kind S.Written.CODE S.Written.SIZE) (kind C.Written.CODE C.Written.SIZE) (length places.now) (length buffer.old) }
-    ensures memory { buffer.new ≡ written result (encode (kind D.Written.CODE D.Written.SIZE) (kind S.Written.CODE S.Written.SIZE) (kind C.Written.CODE C.Written.SIZE) (map (entry_of D.Written.number S.Written.number C.Written.number) places.now)) buffer.old }
+    ensures answer { result ≡ write_verdict (kind_of D.Written) (kind_of S.Written) (kind_of C.Written) (length places.now) (length buffer.old) }
+    ensures memory { buffer.new ≡ written result (encode (kind_of D.Written) (kind_of S.Written) (kind_of C.Written) (map (entry_of D.Written.number S.Written.number C.Written.number) places.now)) buffer.old }
 {
     let count = places.len();
     if count > 4095 {
