@@ -6,50 +6,26 @@ use kinds::address::Address;
 use kinds::cost::Cost;
 use kinds::ipv4::Ipv4;
 use kinds::ipv6::Ipv6;
-use kinds::plain::Plain;
 use kinds::rank::Rank;
 use kinds::socket::Socket;
 use kinds::tariff::Tariff;
-use kinds::written::Written;
+use std::fmt::Debug;
 use std::process::Abort;
 use std::test::Fail;
 
-// What a filter holds, its addresses and its cost as the numbers that they are written as.
-fn check_same<D: Address, S: Address, C: Cost>(
-    rt: &impl Abort,
-    got: &Filter<D, S, C>,
-    put: &Filter<D, S, C>,
-) {
-    assert_eq!(rt;
-        (got.label, got.destination.length, got.source.length),
-        (put.label, put.destination.length, put.source.length)
-    );
-    assert_eq!(rt;
-        got.destination.address.write().wide(),
-        put.destination.address.write().wide()
-    );
-    assert_eq!(rt;
-        got.source.address.write().wide(),
-        put.source.address.write().wide()
-    );
-    assert_eq!(rt; got.cost.write().wide(), put.cost.write().wide());
-    assert_eq!(rt; got.directive, put.directive);
-}
-
 // Puts filters into a book and reads them back, and then without the first.
-fn check_kept<D: Address, S: Address, C: Cost>(
-    rt: &impl Abort,
-    memory: &mut [Record<D, S, C>],
-    put: &[Filter<D, S, C>],
-) -> Result<(), Fail> {
+fn check_kept<
+    D: Address + PartialEq + Debug,
+    S: Address + PartialEq + Debug,
+    C: Cost + PartialEq + Debug,
+>(rt: &impl Abort, memory: &mut [Record<D, S, C>], put: &[Filter<D, S, C>]) -> Result<(), Fail> {
     let mut book = Book::<D, S, C>::new(memory);
     for filter in put {
         book.add(filter)?;
     }
     assert_eq!(rt; book.len(), put.len());
     for (i, filter) in put.iter().enumerate() {
-        let got = book.get(i).ok_or(i)?;
-        check_same(rt, &got, filter);
+        assert_eq!(rt; book.get(i), Some(*filter));
     }
     assert!(rt; book.get(put.len()).is_none() && book.get(usize::MAX).is_none());
     Ok(())

@@ -17,12 +17,5 @@ fn holds(heap: Global, case: &str) -> Result<bool, FromHexError> {
 
 // The cases of a table that do not hold, or are not written as cases.
 pub(crate) fn failing(heap: Global, table: &str) -> Result<String, FromHexError> {
-    let mut cases = String::new(heap);
-    for case in table.lines() {
-        if !holds(heap, case)? {
-            cases.push_str(case)?;
-            cases.push('\n')?;
-        }
-    }
-    Ok(cases)
+    case_tables::failing(heap, table, |case| holds(heap, case))
 }

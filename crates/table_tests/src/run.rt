@@ -1,6 +1,7 @@
 // Runs the cases: each is loaded, and written again.
 use filters::directive::Directive;
 use filters::filter::{Filter, Prefix};
+use hex::{FromHexError, decode};
 use kinds::address::Address;
 use kinds::cost::Cost;
 use kinds::ipv4::Ipv4;
@@ -13,25 +14,9 @@ use std::alloc::{AllocError, Global};
 use tables::check::check_table;
 use tables::turn::load_and_write;
 
-// The bytes of hexadecimal digits in small letters; anything else is passed over.
-pub fn bytes(heap: Global, text: &str) -> Result<Vec<u8>, AllocError> {
-    let mut out = Vec::new(heap);
-    let mut upper: Option<u8> = None;
-    for letter in text.bytes() {
-        let digit = match letter {
-            b'0'..=b'9' => letter - b'0',
-            b'a'..=b'f' => letter - b'a' + 10,
-            _ => continue,
-        };
-        match upper {
-            None => upper = Some(digit << 4),
-            Some(high) => {
-                out.push(high | digit)?;
-                upper = None;
-            }
-        }
-    }
-    Ok(out)
+// The bytes of hexadecimal digits; spaces between them are passed over.
+pub fn bytes(heap: Global, text: &str) -> Result<Vec<u8>, FromHexError> {
+    decode(heap, text.replace(heap, ' ', "")?.as_str())
 }
 
 // Whether the table, loaded and written again, gives the same bytes and leaves those behind them.
@@ -96,35 +81,25 @@ fn answer(heap: Global, kinds: &str, table: &[u8], capacity: usize) -> Result<St
     }
 }
 
-// Whether a case holds: `NAME: KINDS CAPACITY TABLE -> ANSWER`.
-fn holds(heap: Global, case: &str) -> Result<bool, AllocError> {
-    let Some((_, rest)) = case.split_once(": ") else {
+// The kinds, the capacity, the table and the answer expected of a case, which is written as `NAME: KINDS CAPACITY TABLE -> ANSWER`; none where it is no case.
+fn parts(case: &str) -> Option<(&str, usize, &str, &str)> {
+    let (_, rest) = case.split_once(": ")?;
+    let (input, expected) = rest.split_once(" -> ")?;
+    let (kinds, numbers) = input.split_once(" ")?;
+    let (capacity, table) = numbers.split_once(" ")?;
+    Some((kinds, capacity.parse::<usize>().ok()?, table, expected))
+}
+
+// Whether a case holds.
+fn holds(heap: Global, case: &str) -> Result<bool, FromHexError> {
+    let Some((kinds, capacity, table, expected)) = parts(case) else {
         return Ok(false);
     };
-    let Some((input, expected)) = rest.split_once(" -> ") else {
-        return Ok(false);
-    };
-    let Some((kinds, numbers)) = input.split_once(" ") else {
-        return Ok(false);
-    };
-    let Some((capacity, table)) = numbers.split_once(" ") else {
-        return Ok(false);
-    };
-    let Ok(room) = capacity.parse::<usize>() else {
-        return Ok(false);
-    };
-    let text = answer(heap, kinds, bytes(heap, table)?.as_slice(), room)?;
+    let text = answer(heap, kinds, bytes(heap, table)?.as_slice(), capacity)?;
     Ok(text.as_str() == expected)
 }
 
 // The cases of a table that do not hold, or are not written as cases.
-pub fn failing(heap: Global, table: &str) -> Result<String, AllocError> {
-    let mut cases = String::new(heap);
-    for case in table.lines() {
-        if !holds(heap, case)? {
-            cases.push_str(case)?;
-            cases.push('\n')?;
-        }
-    }
-    Ok(cases)
+pub fn failing(heap: Global, table: &str) -> Result<String, FromHexError> {
+    case_tables::failing(heap, table, |case| holds(heap, case))
 }

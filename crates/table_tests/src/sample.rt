@@ -29,35 +29,6 @@ mod tests {
     const SAMPLE: &str =
         "01111002 0001 18 c6336400 00 00000000 00000009 43000000 0002 00 00000000 18 c0000200 00000004 00000000";
 
-    // What a place holds.
-    fn is_at(
-        place: &Filter<u32, u32, u32>,
-        label: u16,
-        destination: (u32, u8),
-        source: (u32, u8),
-        cost: u32,
-        directive: Directive,
-    ) -> bool {
-        place.label == label
-            && place.destination.address == destination.0
-            && place.destination.length == destination.1
-            && place.source.address == source.0
-            && place.source.length == source.1
-            && place.cost == cost
-            && place.directive == directive
-    }
-
-    fn is_junk(place: &Filter<u32, u32, u32>) -> bool {
-        is_at(
-            place,
-            77,
-            (0xdead_beef, 78),
-            (0xcafe_babe, 79),
-            80,
-            Directive::Line(81),
-        )
-    }
-
     #[test]
     fn loaded(rt: HostRuntime) -> Result<(), Fail> {
         let table = bytes(rt.alloc(), SAMPLE)?;
@@ -66,27 +37,33 @@ mod tests {
             load_table::<Ipv4, Ipv4, Rank>(table.as_slice(), &mut places),
             Ok(2)
         );
-        assert!(rt;
-            is_at(
-                &places[0],
-                1,
-                (0xc633_6400, 24),
-                (0, 0),
-                9,
-                Directive::Line(3),
-            )
-        );
-        assert!(rt;
-            is_at(
-                &places[1],
-                2,
-                (0, 0),
-                (0xc000_0200, 24),
-                4,
-                Directive::Block,
-            )
-        );
-        assert!(rt; is_junk(&places[2]));
+        let first = Filter {
+            label: 1,
+            destination: Prefix {
+                address: 0xc633_6400,
+                length: 24,
+            },
+            source: Prefix {
+                address: 0,
+                length: 0,
+            },
+            cost: 9,
+            directive: Directive::Line(3),
+        };
+        let second = Filter {
+            label: 2,
+            destination: Prefix {
+                address: 0,
+                length: 0,
+            },
+            source: Prefix {
+                address: 0xc000_0200,
+                length: 24,
+            },
+            cost: 4,
+            directive: Directive::Block,
+        };
+        assert_eq!(rt; places, [first, second, JUNK]);
         Ok(())
     }
 
@@ -103,7 +80,7 @@ mod tests {
         };
         assert_eq!(rt; fault.record(), 2);
         assert_eq!(rt; fault.number(), 5);
-        assert!(rt; is_junk(&places[0]) && is_junk(&places[1]));
+        assert_eq!(rt; places, [JUNK; 2]);
         Ok(())
     }
 
