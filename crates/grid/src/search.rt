@@ -102,7 +102,7 @@ impl Half for On {
 fn visit<H: Half>(nodes: &[Node], last: Option<H::Kept>, visits: u32, at: u32) -> Walk<H::Kept>
     requires inside { at < length nodes.now }
     requires few { visits < u32.MAX }
-    ensures { result ≡ visited H.leads H.keeps nodes.now last visits at }
+    ensures { result ≡ visited H.keeps nodes.now last visits at }
 {
     Walk {
         at,
@@ -132,9 +132,9 @@ fn follow<H: Half, A: Address>(
     requires inside { start < length nodes.now }
     requires linked { sound (length nodes.now) nodes.now ≡ true }
     requires few { before ≤ 129 }
-    ensures end { result ≡ along (stepped H.leads H.keeps nodes.now) (visited H.leads H.keeps nodes.now None before start) (A.Address.string address.now) }
+    ensures end { result ≡ along (stepped H.leads H.keeps nodes.now) (visited H.keeps nodes.now None before start) (A.Address.string address.now) }
     ensures few { result.visits ≤ before + 1 + A.Address.WIDTH }
-    ensures notes { trail.new ≡ sets trail.old before (places H.leads H.keeps nodes.now (visited H.leads H.keeps nodes.now None before start) (A.Address.string address.now)) }
+    ensures notes { trail.new ≡ sets trail.old before (places H.leads H.keeps nodes.now (visited H.keeps nodes.now None before start) (A.Address.string address.now)) }
 {
     note(trail, before, start);
     let mut walk = visit::<H>(nodes, None, before, start);
