@@ -15,9 +15,6 @@ module _ {X : Type 0} (step : X → Bool → Option X) (x : X) (b : Bool) (r : S
   pub along_on : (y : X) → Some y ≡ step x b → along step x (b ∷ r) ≡ along step y r
   along_on y e = ap (λ (o : Option X). onward o x (λ y. along step y r)) (sym e)
 
-  pub along_stop : None ≡ step x b → along step x (b ∷ r) ≡ x
-  along_stop e = ap (λ (o : Option X). onward o x (λ y. along step y r)) (sym e)
-
   -- and what it notes: m is the memory after n notes, and at x the place of the node that x is at
   module _ (at : X → ℕ) (m : List ℕ) (n : ℕ) where
     noted : Option X → List ℕ
@@ -26,10 +23,6 @@ module _ {X : Type 0} (step : X → Bool → Option X) (x : X) (b : Bool) (r : S
     pub notes_on : (y : X) → Some y ≡ step x b → sets (set m n (at y)) (suc n) (map at (trace step y r)) ≡ sets m n (map at (trace step x (b ∷ r)))
     unfolding noted
     notes_on y e = ap noted e
-
-    pub notes_stop : None ≡ step x b → m ≡ sets m n (map at (trace step x (b ∷ r)))
-    unfolding noted
-    notes_stop e = ap noted e
 
 -- ---- a step stays inside, where no link of a node leads out
 pub lead_inside : (leads : Node → Bool → Option ℕ) (N : List Node) → sound (length N) N ≡ true

@@ -43,15 +43,15 @@ module _ {C : Type 0} (lt : Rule C → Rule C → Bool) (F : List (Rule C)) (N :
   bare_filters =
       rootless_none F (sym (g.whole (destination [])) ∙ ap (λ (ks : List Key). any (key_eq (destination [])) ks) (nil_from_length g.keys g.long))
 
-  pub unbuilt_best : None ≡ named (linear lt F d s)
+  unbuilt_best : None ≡ named (linear lt F d s)
   unbuilt_best = ap (λ (G : List (Rule C)). named (linear lt G d s)) (sym bare_filters)
 
-  pub unbuilt_visits : 0 ≡ visits F d s
+  unbuilt_visits : 0 ≡ visits F d s
   unbuilt_visits = sym (ap (λ (G : List (Rule C)). visits G d s) bare_filters ∙ (no_filters lt d s).1)
 
 -- nothing is visited, and nothing noted
 module _ {C : Type 0} (lt : Rule C → Rule C → Bool) (F : List (Rule C)) (N : List Node) (used : ℕ) (g : Derived lt F N used) (none : used ≡ 0) (d s : Str) where
-  pub unbuilt_noted : (m : List ℕ) → Noted g.keys F d s m m
+  unbuilt_noted : (m : List ℕ) → Noted g.keys F d s m m
   unbuilt_noted m =
       let v = unbuilt_visits lt F N (subst (λ (n : ℕ). Derived lt F N n) none g) d s in
       let empty = nil_from_length (visited F d s) (length_visited F d s ∙ sym v) in
@@ -119,20 +119,20 @@ module _ {C : Type 0} (lt : Rule C → Rule C → Bool) (F : List (Rule C)) (N :
       go (Some D) q = (D, q, sym (ap (found (λ D. place (source D []) g.keys)) q) ∙ sym root_is ∙ h)
 
   -- ---- where there is no source root
-  pub rootless_visits : e.kept ≡ None → e.visits ≡ visits F d s
+  rootless_visits : e.kept ≡ None → e.visits ≡ visits F d s
   rootless_visits h =
       let v = down_visits in
       let p : length (path (has_src F) d s) ≡ 0 = ap (λ (o : Option Str). length (led o (λ D. walk (has_src F) D [] s))) (no_root h) in
       omega arith
 
-  pub rootless_noted : e.kept ≡ None → (before after : List ℕ) → after ≡ sets before 0 (places_down N (entered N None 0 0) d)
+  rootless_noted : e.kept ≡ None → (before after : List ℕ) → after ≡ sets before 0 (places_down N (entered N None 0 0) d)
       → e.visits ≤ length before → Noted g.keys F d s before after
   rootless_noted h before after notes room =
       let v = rootless_visits h in
       noted_from g.keys F d s (places_down N (entered N None 0 0) d ++ []) before after (notes ∙ ap (sets before 0) (sym (append-nil (places_down N (entered N None 0 0) d))))
       (then_places [] (ap (λ (o : Option Str). map (λ k. place (source k.0 k.1) g.keys) (led o (λ D. walk (has_src F) D [] s))) (sym (no_root h)))) (omega arith)
 
-  pub rootless_best : Order lt → Apart F → e.kept ≡ None → None ≡ named (linear lt F d s)
+  rootless_best : Order lt → Apart F → e.kept ≡ None → None ≡ named (linear lt F d s)
   rootless_best ord apart h =
       ap named (sym (ap (λ (o : Option Str). scan lt None (map (kept lt F) (led o (λ D. walk (has_src F) D [] s)))) (no_root h)) ∙ finds_the_best lt ord F apart d s)
 
@@ -147,7 +147,7 @@ module _ {C : Type 0} (lt : Rule C → Rule C → Bool) (F : List (Rule C)) (N :
         (cross_is lt F g.keys g.whole N (replicate (length N - used) Empty) g.nodes s m.0 [] (met N None e.visits n) None m.2
         (ap kept_of (node_of_lem (source m.0 []) n m.2))))
 
-    pub walked_visits : w.visits ≡ visits F d s
+    walked_visits : w.visits ≡ visits F d s
     walked_visits = let v = down_visits in let c = crossed.visits in omega arith
 
     walk_places : map Some (places_on N (met N None e.visits n) s) ≡ map (λ k. place (source k.0 k.1) g.keys) (path (has_src F) d s)
@@ -156,7 +156,7 @@ module _ {C : Type 0} (lt : Rule C → Rule C → Bool) (F : List (Rule C)) (N :
         traced_on lt F g.keys g.whole N (replicate (length N - used) Empty) g.nodes s m.0 [] (met N None e.visits n) m.2
         ∙ ap (λ (o : Option Str). map (λ k. place (source k.0 k.1) g.keys) (led o (λ D. walk (has_src F) D [] s))) (sym m.1)
 
-    pub walked_noted : (before middle after : List ℕ) → middle ≡ sets before 0 (places_down N (entered N None 0 0) d)
+    walked_noted : (before middle after : List ℕ) → middle ≡ sets before 0 (places_down N (entered N None 0 0) d)
         → after ≡ sets middle e.visits (places_on N (met N None e.visits n) s) → w.visits ≤ length before → Noted g.keys F d s before after
     walked_noted before middle after first then room =
         let ps = places_down N (entered N None 0 0) d in
@@ -168,7 +168,7 @@ module _ {C : Type 0} (lt : Rule C → Rule C → Bool) (F : List (Rule C)) (N :
         omega arith) in
         noted_from g.keys F d s (ps ++ qs) before after (then ∙ (λ i. sets (first i) (l i) qs) ∙ sym (sets_append ps qs before 0)) (then_places qs walk_places) (omega arith)
 
-    pub walked_best : Order lt → Apart F → told w.kept ≡ named (linear lt F d s)
+    walked_best : Order lt → Apart F → told w.kept ≡ named (linear lt F d s)
     walked_best ord apart =
         ap told (crossed.best ∙ keep_scan lt F ord apart (path (has_src F) d s) None (λ f q. absurd (none_some f q)))
         ∙ told_keep lt F (choice lt F d s)

@@ -1,5 +1,5 @@
 -- Every link stays below the used places, and every place behind stays empty.
-use Rattle.std.proofs.Common.{◌≡◌, ℕ, zero, suc, ◌+◌, ◌-◌, ◌<◌, ◌≤◌, Bool, true, false, ◌&&◌, List, [], ◌∷◌, length, drop, set, replicate, Some, None, Option, sym, refl, subst, arith}
+use Rattle.std.proofs.Common.{◌≡◌, ℕ, zero, suc, ◌+◌, ◌-◌, ◌<◌, ◌≤◌, true, false, ◌&&◌, List, [], ◌∷◌, length, drop, set, replicate, Some, None, Option, sym, refl, subst, arith}
 use Rattle.std.proofs.lemmas.List.{length-set, drop-drop, drop-set-lt}
 use Rattle.std.proofs.lemmas.Bool.{and_parts, and_from, lt-ltb}
 use Rattle.grid.specs.declared.node.Kept.{Kept}
@@ -11,7 +11,7 @@ use Rattle.grid.specs.Nodes.{no_links, link_with, node_at, child_of, switch_of, 
 use Rattle.grid.specs.Edits.{lead_of, leading, bud_of, keep_in, switched, finish_in}
 use Rattle.grid.specs.Build.{Safe}
 use Rattle.grid.proofs.Wiped.{sound_wiped, bare_wiped}
-use Rattle.grid.specs.Inside.{else_within}
+use Rattle.grid.specs.Inside.{next_inside}
 use Rattle.grid.proofs.Sound.{links, links_more, sound_at, sound_more}
 
 -- ---- a node's links
@@ -23,10 +23,6 @@ links_from u n a b c d e =
     (and_from (within u (child_of n true)) (within u (switch_of n false) && (within u (switch_of n true) && within u (root_of n))) b
     (and_from (within u (switch_of n false)) (within u (switch_of n true) && within u (root_of n)) c
     (and_from (within u (switch_of n true)) (within u (root_of n)) d e)))
-
--- where a node leads by a bit
-pub next_in : (u : ℕ) (n : Node) (b : Bool) → links_within u n ≡ true → within u (next_of n b) ≡ true
-next_in u n b h = let l = links u n h in else_within u (child_of n b) (switch_of n b) (l.child b) (l.switch b)
 
 pub lead_within : (u : ℕ) (n : Node) (w : Way) → links_within u n ≡ true → within u (lead_of n w) ≡ true
 lead_within u n (Down b) h = (links u n h).child b
@@ -66,8 +62,8 @@ links_finish u Empty beside above h k = h
 links_finish u (Destination c r) beside above h k = h
 links_finish u (Source c x e) beside above h k =
     let q = links u (Source c x e) h in
-    links_from u (finish_in (Source c x e) beside above) (q.child false) (q.child true) (switched_within u c.zero (next_of beside false) (next_in u beside false k))
-    (switched_within u c.one (next_of beside true) (next_in u beside true k)) refl
+    links_from u (finish_in (Source c x e) beside above) (q.child false) (q.child true) (switched_within u c.zero (next_of beside false) (next_inside u beside false k))
+    (switched_within u c.one (next_of beside true) (next_inside u beside true k)) refl
 
 -- ---- all nodes
 

@@ -29,18 +29,19 @@ trace step x [] = []
 trace step x (b ∷ r) = beyond (step x b) (λ y. y ∷ trace step y r)
 
 -- ---- a walk, which goes from a node by a bit where `leads` says, and keeps of a node what `keeps` says
-module _ {K : Type 0} (leads : Node → Bool → Option ℕ) (keeps : Option K → Node → Option K) where
-  -- the node at p is visited, after n others, and last was kept before
-  abbrev pub visited : List Node → Option K → ℕ → ℕ → Walk K
-  visited N last n p = record { at = p; kept = keeps last (node_at N p); visits = n + 1 }
 
+-- the node at p is visited, after n others, and last was kept before
+abbrev pub visited : {K : Type 0} → (Option K → Node → Option K) → List Node → Option K → ℕ → ℕ → Walk K
+visited keeps N last n p = record { at = p; kept = keeps last (node_at N p); visits = n + 1 }
+
+module _ {K : Type 0} (leads : Node → Bool → Option ℕ) (keeps : Option K → Node → Option K) (N : List Node) where
   -- one step on, by a bit
-  abbrev pub stepped : List Node → Walk K → Bool → Option (Walk K)
-  stepped N w b = option_map (visited N w.kept w.visits) (leads (node_at N w.at) b)
+  abbrev pub stepped : Walk K → Bool → Option (Walk K)
+  stepped w b = option_map (visited keeps N w.kept w.visits) (leads (node_at N w.at) b)
 
   -- the places of the nodes that a walk visits from w on, along the bits of a string
-  abbrev pub places : List Node → Walk K → Str → List ℕ
-  places N w t = w.at ∷ map (λ v. v.at) (trace (stepped N) w t)
+  abbrev pub places : Walk K → Str → List ℕ
+  places w t = w.at ∷ map (λ v. v.at) (trace stepped w t)
 
 -- ---- down the destination trie
 
@@ -49,7 +50,7 @@ abbrev pub last_root : Option ℕ → Node → Option ℕ
 last_root root n = or_else (root_of n) root
 
 abbrev pub entered : List Node → Option ℕ → ℕ → ℕ → Walk ℕ
-entered = visited child_of last_root
+entered = visited last_root
 
 abbrev pub step_down : List Node → Walk ℕ → Bool → Option (Walk ℕ)
 step_down = stepped child_of last_root
@@ -64,7 +65,7 @@ abbrev pub better_kept : Option Kept → Node → Option Kept
 better_kept best n = pick_kept best (kept_of n)
 
 abbrev pub met : List Node → Option Kept → ℕ → ℕ → Walk Kept
-met = visited next_of better_kept
+met = visited better_kept
 
 abbrev pub step_on : List Node → Walk Kept → Bool → Option (Walk Kept)
 step_on = stepped next_of better_kept

@@ -98,25 +98,27 @@ impl Half for On {
     }
 }
 
-// Visits the node at a place, after so many others.
-fn visit<H: Half>(nodes: &[Node], last: Option<H::Kept>, visits: u32, at: u32) -> Walk<H::Kept>
-    requires inside { at < length nodes.now }
-    requires few { visits < u32.MAX }
-    ensures { result ≡ visited H.leads H.keeps nodes.now last visits at }
-{
-    Walk {
-        at,
-        kept: H::keep(last, nodes[at as usize]),
-        visits: visits + 1,
-    }
-}
-
 // Writes the place of the node that is visited after so many; where the trail has no place for it, nothing is written.
 fn note(trail: &mut [u32], visits: u32, at: u32)
     ensures { trail.new ≡ slice_set trail.old visits at }
 {
     if (visits as usize) < trail.len() {
         trail[visits as usize] = at;
+    }
+}
+
+// Visits the node at a place and notes it, behind what a walk has visited so far.
+fn visit<H: Half>(nodes: &[Node], walk: Walk<H::Kept>, at: u32, trail: &mut [u32]) -> Walk<H::Kept>
+    requires inside { at < length nodes.now }
+    requires few { walk.visits < u32.MAX }
+    ensures state { result ≡ visited H.keeps nodes.now walk.kept walk.visits at }
+    ensures notes { trail.new ≡ slice_set trail.old walk.visits at }
+{
+    note(trail, walk.visits, at);
+    Walk {
+        at,
+        kept: H::keep(walk.kept, nodes[at as usize]),
+        visits: walk.visits + 1,
     }
 }
 
@@ -132,18 +134,21 @@ fn follow<H: Half, A: Address>(
     requires inside { start < length nodes.now }
     requires linked { sound (length nodes.now) nodes.now ≡ true }
     requires few { before ≤ 129 }
-    ensures end { result ≡ along (stepped H.leads H.keeps nodes.now) (visited H.leads H.keeps nodes.now None before start) (A.Address.string address.now) }
+    ensures end { result ≡ along (stepped H.leads H.keeps nodes.now) (visited H.keeps nodes.now None before start) (A.Address.string address.now) }
     ensures few { result.visits ≤ before + 1 + A.Address.WIDTH }
-    ensures notes { trail.new ≡ sets trail.old before (places H.leads H.keeps nodes.now (visited H.leads H.keeps nodes.now None before start) (A.Address.string address.now)) }
+    ensures notes { trail.new ≡ sets trail.old before (places H.leads H.keeps nodes.now (visited H.keeps nodes.now None before start) (A.Address.string address.now)) }
 {
-    note(trail, before, start);
-    let mut walk = visit::<H>(nodes, None, before, start);
+    let none = Walk {
+        at: start,
+        kept: None,
+        visits: before,
+    };
+    let mut walk = visit::<H>(nodes, none, start, trail);
     for bit in Bits::of(address) {
         let Some(at) = H::next(nodes[walk.at as usize], bit) else {
             return walk;
         };
-        note(trail, walk.visits, at);
-        walk = visit::<H>(nodes, walk.kept, walk.visits, at);
+        walk = visit::<H>(nodes, walk, at, trail);
     }
     walk
 }

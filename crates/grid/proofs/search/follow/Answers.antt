@@ -18,8 +18,8 @@ loop-bit-preserved g c =
     let b = c.in-Some.bit in
     let r = c.next.new.self in
     let bits = c.in-Some.ensures.steps in
-    let to = c.visit-walk-in-loop-bit.ensures in
-    let e : Some v ≡ step w b = ap Some to ∙ ap (option_map (visited g.H.Half.leads g.H.Half.keeps N w.kept w.visits)) c.in-Some-next.ensures in
+    let to = c.visit-walk-in-loop-bit.ensures.state in
+    let e : Some v ≡ step w b = ap Some to ∙ ap (option_map (visited g.H.Half.keeps N w.kept w.visits)) c.in-Some-next.ensures in
     let at = ap (λ x. x.at) to in
     let inside = lead_inside g.H.Half.leads N c.requires.linked g.met.H.Half.inside w.at b c.in-Some-next.at c.in-Some-next.ensures in
     let one = ap (λ x. x.visits) to in
@@ -31,7 +31,7 @@ loop-bit-preserved g c =
       omega arith,
       omega arith,
       sym (along_on step w b r v e) ∙ ap (along step w) (sym bits) ∙ c.loop-bit.invariant.4,
-      (λ i. sets ((c.note-in-loop-bit.ensures ∙ ap (set c.loop-bit.trail w.visits) (sym at)) i) (next i) (map (λ x. x.at) (trace step v r)))
+      (λ i. sets ((c.visit-walk-in-loop-bit.ensures.notes ∙ ap (set c.loop-bit.trail w.visits) (sym at)) i) (next i) (map (λ x. x.at) (trace step v r)))
           ∙ notes_on step w b r (λ x. x.at) c.loop-bit.trail w.visits v e
           ∙ ap (λ t. sets c.loop-bit.trail w.visits (map (λ x. x.at) (trace step w t))) (sym bits)
           ∙ c.loop-bit.invariant.5,

@@ -7,7 +7,7 @@ use Rattle.grid.proofs.search.follow.Given as goal
 abbrev pub invariant-loop-bit : goal.invariant-loop-bit
 invariant-loop-bit g l =
     let step = stepped g.H.Half.leads g.H.Half.keeps l.nodes in
-    let start = visited g.H.Half.leads g.H.Half.keeps l.nodes None l.before l.start in
+    let start = visited g.H.Half.keeps l.nodes None l.before l.start in
     (goal.iterator-loop-bit g).can_next l.bit-iterator
     × (goal.iterator-loop-bit g).is_finite l.bit-iterator
     × (l.walk.at < length l.nodes)

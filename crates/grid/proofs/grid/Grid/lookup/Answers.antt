@@ -1,4 +1,4 @@
-use Rattle.std.proofs.Common.{◌+◌, length, sym, ◌∙◌, ap, arith}
+use Rattle.std.proofs.Common.{◌+◌, length, sym, ◌∙◌, ap, arith, rules}
 use Rattle.filters.specs.Rules.{better}
 use Rattle.filters.proofs.Bests.{ranks}
 use Rattle.grid.specs.Nodes.{within}
@@ -7,37 +7,26 @@ use Rattle.grid.proofs.Alongs.{root_is_inside}
 use Rattle.grid.proofs.Found.{of_none, of_descent, of_walk}
 use Rattle.grid.proofs.grid.Grid.lookup.Goals as goal
 
-pub follow-down-requires : goal.follow-down-requires
-follow-down-requires g c =
-    let grid = c.args.self.now in
-    record {
-      inside = omega arith;
-      linked = sound_more grid.used (length grid.nodes.now) grid.fits grid.nodes.now grid.linked;
-      few = omega arith;
-    }
+pub follow-down-requires-clause-linked : goal.follow-down-requires-clause-linked
+follow-down-requires-clause-linked g c = let grid = c.args.self.now in sound_more grid.used (length grid.nodes.now) grid.fits grid.nodes.now grid.linked
 
-pub follow-walk-requires : goal.follow-walk-requires
-follow-walk-requires g c =
+pub follow-walk-requires-clause-linked : goal.follow-walk-requires-clause-linked
+follow-walk-requires-clause-linked g c = let grid = c.args.self.now in sound_more grid.used (length grid.nodes.now) grid.fits grid.nodes.now grid.linked
+
+pub follow-walk-requires-clause-inside : goal.follow-walk-requires-clause-inside
+follow-walk-requires-clause-inside g c =
     let grid = c.args.self.now in
     let N = grid.nodes.now in
-    let linked = sound_more grid.used (length N) grid.fits N grid.linked in
-    let few = c.follow-down.ensures.few in
-    let wide = g.met.D.Address.span in
-    let short = g.met.D.Written.short in
-    record {
-      inside =
-          within_lt (length N) c.in-Some.root c.follow-down.result.kept
-          (ap (λ w. within (length N) w.kept) c.follow-down.ensures.end ∙ root_is_inside N linked (g.D.Address.string c.args.destination.now)) (sym c.in-Some.is);
-      linked = linked;
-      few = omega arith;
-    }
+    within_lt (length N) c.in-Some.root c.follow-down.result.kept
+    (ap (λ w. within (length N) w.kept) c.follow-down.ensures.end
+    ∙ root_is_inside N (sound_more grid.used (length N) grid.fits N grid.linked) (g.D.Address.string c.args.destination.now)) (sym c.in-Some.is)
 
 pub returns-then-self-eq0 : goal.returns-then-self-eq0
 returns-then-self-eq0 g c =
     let r =
     of_none (better g.C.Cost.order) c.args.self.now.nodes.now c.args.self.now.used (g.D.Address.string c.args.destination.now) (g.S.Address.string c.args.source.now)
     (g.D.Address.WIDTH + g.S.Address.WIDTH + 2) c.args.trail.now c.if-self-eq0.true in
-    record { best = r.best; visits = r.visits; notes = r.notes }
+    search rules
 
 pub returns-in-None : goal.returns-in-None
 returns-in-None g c =
@@ -47,7 +36,7 @@ returns-in-None g c =
     (g.D.Address.WIDTH + g.S.Address.WIDTH + 2) c.args.trail.now
     (ranks g.C.Cost.order (record { exchange = g.met.C.Cost.exchange; chain = g.met.C.Cost.chain })) (omega arith)
     c.follow-down.result c.follow-down.ensures.end c.follow-down.new.trail c.follow-down.ensures.notes c.in-None.is (omega arith) in
-    record { best = r.best; visits = r.visits; notes = r.notes }
+    search rules
 
 pub returns-in-Some : goal.returns-in-Some
 returns-in-Some g c =
@@ -59,4 +48,4 @@ returns-in-Some g c =
     (ranks g.C.Cost.order (record { exchange = g.met.C.Cost.exchange; chain = g.met.C.Cost.chain })) (omega arith)
     c.follow-down.result c.follow-down.ensures.end c.follow-down.new.trail c.follow-down.ensures.notes c.in-Some.root c.in-Some.is
     c.follow-walk.result c.follow-walk.ensures.end c.follow-walk.new.trail c.follow-walk.ensures.notes (omega arith) in
-    record { best = λ F apart h. c.tell.ensures ∙ r.best F apart h; visits = r.visits; notes = r.notes }
+    search rules
