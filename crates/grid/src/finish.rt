@@ -58,7 +58,8 @@ impl Trek {
     fn place(nodes: &mut [Node], at: u32, beside: Node, above: Option<Kept>) -> Trek
         ensures { (nodes.new, result) ≡ finish_at nodes.old at beside above }
     {
-        let node = look(nodes, at).finished(beside, above);
+        let mut node = look(nodes, at);
+        node.finish(beside, above);
         if (at as usize) < nodes.len() {
             nodes[at as usize] = node;
         }

@@ -30,7 +30,7 @@ impl<'m, D: Address, S: Address, C: Cost> Grid<'m, D, S, C> {
             None => {
                 let next = *used;
                 nodes[next as usize] = node.bud(way);
-                nodes[at as usize] = node.leading(way, next);
+                nodes[at as usize].lead_to(way, next);
                 *used = next + 1;
                 next
             }
@@ -83,7 +83,6 @@ impl<'m, D: Address, S: Address, C: Cost> Grid<'m, D, S, C> {
         let root = self.extend(leaf, Way::Root);
         let end = self.insert_path(root, from);
         let Grid { nodes, .. } = self;
-        let node = nodes[end as usize];
-        nodes[end as usize] = node.keeping(kept);
+        nodes[end as usize].keep(kept);
     }
 }
