@@ -22,7 +22,7 @@ invariant_of-self-in-None g c =
     let b = c.bud.ensures in
     let l = c.lead_to.ensures ∙ ap (λ (n : Node). leading n c.args.way self.used) (stays N self.used c.args.at c.bud.result c.requires.start) in
     let s = subst (λ (z : Node × Node). Safe (self.used + 1) (set (set N self.used z.0) c.args.at z.1)) (λ j. (sym b j, sym l j))
-    (safe_grown self.used N c.args.at c.args.way (record { fits = self.fits; linked = self.linked; rest = self.rest }) c.requires.room.0 c.requires.start) in
+    (safe_grown self.used N c.args.at c.args.way (record { fits = self.fits; linked = self.linked; rest = self.rest }) (omega (arith, c.requires.room.0)) c.requires.start) in
     record { fits = s.fits; linked = s.linked; rest = s.rest }
 
 pub returns-in-Some-clause-found : goal.returns-in-Some-clause-found
@@ -45,4 +45,4 @@ returns-in-None-clause-grid g c =
     λ own keys k st e h.
     subst (λ (z : Node × Node). Grown own keys (λ m. key_eq m (reached k c.args.way)) (reached k c.args.way) (set (set N self.used z.0) c.args.at z.1) (self.used + 1) self.used)
     (λ j. (sym b j, sym l j))
-    (extend_new own keys N self.used st k c.args.way c.args.at e h c.in-None.ensures c.requires.room.0)
+    (extend_new own keys N self.used st k c.args.way c.args.at e h c.in-None.ensures (omega (arith, c.requires.room.0)))
