@@ -36,12 +36,12 @@ fn child_from(nodes: &[Node], at: u32, bit: bool) -> u32
 fn roots_of<A: Address>(nodes: &[Node], path: &Prefix<A>) -> (Option<u32>, Option<u32>)
     ensures { result ≡ roots nodes.now 0 None (prefix_of A.Address.string path.now) }
 {
-    let mut at = 0;
-    let mut last = None;
-    for bit in path.bits() {
-        last = look(nodes, at).source().or(last);
-        at = child_from(nodes, at, bit);
-    }
+    let (at, last) = path.bits().fold((0, None), |(at, last), bit| {
+        (
+            child_from(nodes, at, bit),
+            look(nodes, at).source().or(last),
+        )
+    });
     (look(nodes, at).source(), last)
 }
 
