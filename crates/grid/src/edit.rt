@@ -40,6 +40,7 @@ impl Node {
                 Way::Down(bit) => *children = children.with(bit, to),
                 Way::Root => *source = Some(to),
             },
+            // not an or-pattern with the arm above: its proof is not made yet
             Node::Source { children, .. } => {
                 if let Way::Down(bit) = way {
                     *children = children.with(bit, to);

@@ -15,7 +15,8 @@ use kinds::address::Address;
 use kinds::cost::Cost;
 
 impl<'m, D: Address, S: Address, C: Cost> Grid<'m, D, S, C> {
-    // Inserts what a place holds, if it holds a filter; its standing is that among all records.
+    // Inserts what a place holds, if it holds a filter; its standing is that among all records. Records are passed, and not their
+    // book: clauses that speak of a book's records are longer than the clause that they are few.
     fn insert_record(&mut self, records: &[Record<D, S, C>], place: &Record<D, S, C>)
         requires few { length records.now ≤ 4095 }
         requires room { Room (most_used self.old.used D.Address.WIDTH S.Address.WIDTH) self.old.nodes.now }

@@ -60,6 +60,7 @@ impl Trek {
     {
         let mut node = look(nodes, at);
         node.finish(beside, above);
+        // not get_mut: what a write through it leaves has no name that a proof can cite
         if (at as usize) < nodes.len() {
             nodes[at as usize] = node;
         }
@@ -85,6 +86,7 @@ fn finish_path<A: Address>(nodes: &mut [Node], top: u32, beside: Node, path: &Pr
     ensures { nodes.new ≡ (trek (finish_at nodes.old top beside None) (prefix_of A.Address.string path.now)).0 }
 {
     let mut trek = Trek::place(nodes, top, beside, None);
+    // not a fold: nothing is proved of a closure that writes to memory that it captures
     for bit in path.bits() {
         trek = trek.onward(nodes, bit);
     }

@@ -65,6 +65,7 @@ impl<'m, D: Address, S: Address, C: Cost> Grid<'m, D, S, C> {
         ensures grid { (own : Str → Str → Option Kept) (keys : List Key) (o : Option Str) → State own keys self.old.nodes.now self.old.used → place (in_trie o []) keys ≡ Some start → Grown own keys (above (in_trie o (prefix_of A.Address.string path.now))) (in_trie o (prefix_of A.Address.string path.now)) self.new.nodes.now self.new.used result }
     {
         let mut at = start;
+        // not a fold: nothing is proved of a closure that writes to memory that it captures
         for bit in path.bits() {
             at = self.extend(at, Way::Down(bit));
         }
