@@ -1,5 +1,5 @@
 -- The grid in the making: nodes with their children alone, memory that holds such nodes, and what an insertion adds.
-use Rattle.std.specs.Prelude.{◌≡◌, ℕ, ◌-◌, ◌≤◌, Bool, true, false, cond, ◌&&◌, ◌||◌, List, [], ◌++◌, map, length, drop, replicate, Some, None, Option}
+use Rattle.std.specs.Prelude.{◌≡◌, ℕ, ◌+◌, ◌-◌, ◌^◌, ◌<◌, ◌≤◌, max, Bool, true, false, cond, ◌&&◌, ◌||◌, List, [], ◌++◌, map, length, drop, replicate, Some, None, Option}
 use Rattle.kinds.specs.Strings.{Str, starts, equal, snoc}
 use Rattle.filters.specs.Rules.{Rule, best}
 use Rattle.tries.specs.Prefixes.{any}
@@ -16,6 +16,14 @@ pub record Safe (used : ℕ) (N : List Node) : Type 0 where
   pub fits : used ≤ length N
   pub linked : sound used N ≡ true
   pub rest : bare (drop used N) ≡ true
+
+-- there are so many places, and a number of 32 bits counts them
+abbrev pub Room : ℕ → List Node → Type 0
+Room n N = (n ≤ length N) × (n < 2 ^ 32)
+
+-- the most places that are used when one more filter is in, wd and ws being the widths of destination and source
+abbrev pub most_used : ℕ → ℕ → ℕ → ℕ
+most_used used wd ws = max 1 used + (wd + ws + 1)
 
 -- the name of the node that a way leads to; a source node has no way to a root
 abbrev pub reached : Key → Way → Key

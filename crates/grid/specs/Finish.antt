@@ -22,10 +22,13 @@ child_from N p b = unwrap_or (child_of (node_at N p) b) p
 
 -- ---- the roots of source tries on the way down a destination string
 
+-- one step down, by a bit: the last root is remembered
+abbrev pub fall : List Node → ℕ × Option ℕ → Bool → ℕ × Option ℕ
+fall N w b = (child_from N w.0 b, option_or (root_of (node_at N w.0)) w.1)
+
 -- the root at the end of the string, and the last one before the end, or else up
 abbrev pub roots : List Node → ℕ → Option ℕ → Str → Option ℕ × Option ℕ
-roots N p up [] = (root_of (node_at N p), up)
-roots N p up (b ∷ r) = roots N (child_from N p b) (option_or (root_of (node_at N p)) up) r
+roots N p up s = let w = fold (fall N) (p, up) s in (root_of (node_at N w.0), w.1)
 
 -- ---- along a source path
 

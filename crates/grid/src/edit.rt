@@ -30,32 +30,22 @@ impl Node {
         }
     }
 
-    // The node with a link by a way.
-    pub(crate) fn leading(self, way: Way, to: u32) -> Node
-        ensures { result ≡ leading self way to }
+    // Gives the node a link by a way.
+    pub(crate) fn lead_to(&mut self, way: Way, to: u32)
+        ensures { self.new ≡ leading self.old way to }
     {
-        match (self, way) {
-            (Node::Destination { children, source }, Way::Down(bit)) => Node::Destination {
-                children: children.with(bit, to),
-                source,
+        match self {
+            Node::Empty => {}
+            Node::Destination { children, source } => match way {
+                Way::Down(bit) => *children = children.with(bit, to),
+                Way::Root => *source = Some(to),
             },
-            (Node::Destination { children, .. }, Way::Root) => Node::Destination {
-                children,
-                source: Some(to),
-            },
-            (
-                Node::Source {
-                    children,
-                    switches,
-                    kept,
-                },
-                Way::Down(bit),
-            ) => Node::Source {
-                children: children.with(bit, to),
-                switches,
-                kept,
-            },
-            (other, _) => other,
+            // not an or-pattern with the arm above: its proof is not made yet
+            Node::Source { children, .. } => {
+                if let Way::Down(bit) = way {
+                    *children = children.with(bit, to);
+                }
+            }
         }
     }
 
@@ -77,39 +67,31 @@ impl Node {
         }
     }
 
-    // The node, keeping the better of what it keeps and one more.
-    pub(crate) fn keeping(self, more: Kept) -> Node
-        ensures { result ≡ keep_in self more }
+    // Keeps the better of what the node keeps and one more.
+    pub(crate) fn keep(&mut self, more: Kept)
+        ensures { self.new ≡ keep_in self.old more }
     {
-        match self {
-            Node::Source {
-                children,
-                switches,
-                kept,
-            } => Node::Source {
-                children,
-                switches,
-                kept: pick_kept(kept, Some(more)),
-            },
-            other => other,
+        if let Node::Source { kept, .. } = self {
+            *kept = pick_kept(*kept, Some(more));
         }
     }
 
-    // The finished node: by each bit without a child its switch leads where `beside` leads, and it keeps the best of what it
+    // Finishes the node: by each bit without a child its switch leads where `beside` leads, and it keeps the best of what it
     // keeps, what its parent keeps and what `beside` keeps.
-    pub(crate) fn finished(self, beside: Node, above: Option<Kept>) -> Node
-        ensures { result ≡ finish_in self beside above }
+    pub(crate) fn finish(&mut self, beside: Node, above: Option<Kept>)
+        ensures { self.new ≡ finish_in self.old beside above }
     {
-        match self {
-            Node::Source { children, kept, .. } => Node::Source {
-                children,
-                switches: Links {
-                    zero: switch_beside(children.zero, beside.next(false)),
-                    one: switch_beside(children.one, beside.next(true)),
-                },
-                kept: pick_kept(pick_kept(kept, above), beside.kept()),
-            },
-            other => other,
+        if let Node::Source {
+            children,
+            switches,
+            kept,
+        } = self
+        {
+            *switches = Links {
+                zero: switch_beside(children.zero, beside.next(false)),
+                one: switch_beside(children.one, beside.next(true)),
+            };
+            *kept = pick_kept(pick_kept(*kept, above), beside.kept());
         }
     }
 }

@@ -1,11 +1,11 @@
 // The insertion of all filters that places hold.
-ghost use Rattle.std.specs.Prelude.{◌≡◌, ◌+◌, ◌^◌, ◌<◌, ◌≤◌, max, List, ◌++◌, length, replicate};
+ghost use Rattle.std.specs.Prelude.{◌≡◌, ◌≤◌, List, ◌++◌, length, replicate};
 ghost use Rattle.filters.specs.Rules.{Rule, better};
 ghost use Rattle.filters.specs.Meaning.{held, rules};
 ghost use Rattle.filters.specs.Orders.{In};
 ghost use Rattle.tries.specs.Shape.{need};
 ghost use Rattle.grid.specs.declared.node.Node.TheVariants.{Empty};
-ghost use Rattle.grid.specs.Build.{Filled};
+ghost use Rattle.grid.specs.Build.{Room, most_used, Filled};
 
 use crate::grid::Grid;
 use crate::node::Kept;
@@ -15,11 +15,12 @@ use kinds::address::Address;
 use kinds::cost::Cost;
 
 impl<'m, D: Address, S: Address, C: Cost> Grid<'m, D, S, C> {
-    // Inserts what a place holds, if it holds a filter; its standing is that among all records.
+    // Inserts what a place holds, if it holds a filter; its standing is that among all records. Records are passed, and not their
+    // book: clauses that speak of a book's records are longer than the clause that they are few.
     fn insert_record(&mut self, records: &[Record<D, S, C>], place: &Record<D, S, C>)
         requires few { length records.now ≤ 4095 }
-        requires room { (max 1 self.old.used + (D.Address.WIDTH + S.Address.WIDTH + 1) ≤ length self.old.nodes.now) × (max 1 self.old.used + (D.Address.WIDTH + S.Address.WIDTH + 1) < 2 ^ 32) }
-        ensures most { self.new.used ≤ max 1 self.old.used + (D.Address.WIDTH + S.Address.WIDTH + 1) }
+        requires room { Room (most_used self.old.used D.Address.WIDTH S.Address.WIDTH) self.old.nodes.now }
+        ensures most { self.new.used ≤ most_used self.old.used D.Address.WIDTH S.Address.WIDTH }
         ensures places { length self.new.nodes.now ≡ length self.old.nodes.now }
         ensures grid { (G : List (Rule C)) → ((f : Rule C) → In f G → In f (rules D.Address.spells S.Address.spells C.Written.reads records.now)) → ((f : Rule C) → In f (held D.Address.spells S.Address.spells C.Written.reads place.now) → In f (rules D.Address.spells S.Address.spells C.Written.reads records.now)) → Filled (better C.Cost.order) (rules D.Address.spells S.Address.spells C.Written.reads records.now) G self.old.nodes.now self.old.used → Filled (better C.Cost.order) (rules D.Address.spells S.Address.spells C.Written.reads records.now) (G ++ held D.Address.spells S.Address.spells C.Written.reads place.now) self.new.nodes.now self.new.used }
     {

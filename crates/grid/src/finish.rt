@@ -36,12 +36,12 @@ fn child_from(nodes: &[Node], at: u32, bit: bool) -> u32
 fn roots_of<A: Address>(nodes: &[Node], path: &Prefix<A>) -> (Option<u32>, Option<u32>)
     ensures { result ≡ roots nodes.now 0 None (prefix_of A.Address.string path.now) }
 {
-    let mut at = 0;
-    let mut last = None;
-    for bit in path.bits() {
-        last = look(nodes, at).source().or(last);
-        at = child_from(nodes, at, bit);
-    }
+    let (at, last) = path.bits().fold((0, None), |(at, last), bit| {
+        (
+            child_from(nodes, at, bit),
+            look(nodes, at).source().or(last),
+        )
+    });
     (look(nodes, at).source(), last)
 }
 
@@ -58,7 +58,9 @@ impl Trek {
     fn place(nodes: &mut [Node], at: u32, beside: Node, above: Option<Kept>) -> Trek
         ensures { (nodes.new, result) ≡ finish_at nodes.old at beside above }
     {
-        let node = look(nodes, at).finished(beside, above);
+        let mut node = look(nodes, at);
+        node.finish(beside, above);
+        // not get_mut: what a write through it leaves has no name that a proof can cite
         if (at as usize) < nodes.len() {
             nodes[at as usize] = node;
         }
@@ -84,6 +86,7 @@ fn finish_path<A: Address>(nodes: &mut [Node], top: u32, beside: Node, path: &Pr
     ensures { nodes.new ≡ (trek (finish_at nodes.old top beside None) (prefix_of A.Address.string path.now)).0 }
 {
     let mut trek = Trek::place(nodes, top, beside, None);
+    // not a fold: nothing is proved of a closure that writes to memory that it captures
     for bit in path.bits() {
         trek = trek.onward(nodes, bit);
     }

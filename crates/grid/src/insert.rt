@@ -1,9 +1,9 @@
 // The insertion of filters: their paths in the tries, and what they leave at the end of them.
-ghost use Rattle.std.specs.Prelude.{◌≡◌, ◌+◌, ◌^◌, ◌<◌, ◌≤◌, max, true, List, [], length, Some, None, Option};
+ghost use Rattle.std.specs.Prelude.{◌≡◌, ◌+◌, ◌<◌, ◌≤◌, max, true, List, [], length, Some, None, Option};
 ghost use Rattle.kinds.specs.Strings.{Str};
 ghost use Rattle.filters.specs.Meaning.{prefix_of};
 ghost use Rattle.grid.specs.Derived.{Key, key_eq, place};
-ghost use Rattle.grid.specs.Build.{State, Grown, Inserted, reached, goes, in_trie, above};
+ghost use Rattle.grid.specs.Build.{Room, most_used, State, Grown, Inserted, reached, goes, in_trie, above};
 
 use crate::edit::Way;
 use crate::grid::Grid;
@@ -16,7 +16,7 @@ impl<'m, D: Address, S: Address, C: Cost> Grid<'m, D, S, C> {
     // The node that a way leads to from the node at `at`: the one that is there, or a new one at the first place behind.
     fn extend(&mut self, at: u32, way: Way) -> u32
         requires start { at < self.old.used }
-        requires room { (self.old.used < length self.old.nodes.now) × (self.old.used + 1 < 2 ^ 32) }
+        requires room { Room (self.old.used + 1) self.old.nodes.now }
         ensures found { result < self.new.used }
         ensures least { self.old.used ≤ self.new.used }
         ensures most { self.new.used ≤ self.old.used + 1 }
@@ -30,7 +30,7 @@ impl<'m, D: Address, S: Address, C: Cost> Grid<'m, D, S, C> {
             None => {
                 let next = *used;
                 nodes[next as usize] = node.bud(way);
-                nodes[at as usize] = node.leading(way, next);
+                nodes[at as usize].lead_to(way, next);
                 *used = next + 1;
                 next
             }
@@ -57,7 +57,7 @@ impl<'m, D: Address, S: Address, C: Cost> Grid<'m, D, S, C> {
     // The node at the end of a path from the root of a trie, made with all on the way to it that is not there.
     fn insert_path<A: Address>(&mut self, start: u32, path: &Prefix<A>) -> u32
         requires start { start < self.old.used }
-        requires room { (self.old.used + length (prefix_of A.Address.string path.now) ≤ length self.old.nodes.now) × (self.old.used + length (prefix_of A.Address.string path.now) < 2 ^ 32) }
+        requires room { Room (self.old.used + length (prefix_of A.Address.string path.now)) self.old.nodes.now }
         ensures found { result < self.new.used }
         ensures least { self.old.used ≤ self.new.used }
         ensures most { self.new.used ≤ self.old.used + length (prefix_of A.Address.string path.now) }
@@ -65,6 +65,7 @@ impl<'m, D: Address, S: Address, C: Cost> Grid<'m, D, S, C> {
         ensures grid { (own : Str → Str → Option Kept) (keys : List Key) (o : Option Str) → State own keys self.old.nodes.now self.old.used → place (in_trie o []) keys ≡ Some start → Grown own keys (above (in_trie o (prefix_of A.Address.string path.now))) (in_trie o (prefix_of A.Address.string path.now)) self.new.nodes.now self.new.used result }
     {
         let mut at = start;
+        // not a fold: nothing is proved of a closure that writes to memory that it captures
         for bit in path.bits() {
             at = self.extend(at, Way::Down(bit));
         }
@@ -73,8 +74,8 @@ impl<'m, D: Address, S: Address, C: Cost> Grid<'m, D, S, C> {
 
     // Inserts both paths of a filter, and offers what is to be kept to the node at the end of the second.
     pub(crate) fn insert(&mut self, to: &Prefix<D>, from: &Prefix<S>, kept: Kept)
-        requires room { (max 1 self.old.used + (D.Address.WIDTH + S.Address.WIDTH + 1) ≤ length self.old.nodes.now) × (max 1 self.old.used + (D.Address.WIDTH + S.Address.WIDTH + 1) < 2 ^ 32) }
-        ensures most { self.new.used ≤ max 1 self.old.used + (D.Address.WIDTH + S.Address.WIDTH + 1) }
+        requires room { Room (most_used self.old.used D.Address.WIDTH S.Address.WIDTH) self.old.nodes.now }
+        ensures most { self.new.used ≤ most_used self.old.used D.Address.WIDTH S.Address.WIDTH }
         ensures places { length self.new.nodes.now ≡ length self.old.nodes.now }
         ensures grid { (own : Str → Str → Option Kept) (keys : List Key) → State own keys self.old.nodes.now self.old.used → Inserted own keys (prefix_of D.Address.string to.now) (prefix_of S.Address.string from.now) kept self.new.nodes.now self.new.used }
     {
@@ -83,7 +84,6 @@ impl<'m, D: Address, S: Address, C: Cost> Grid<'m, D, S, C> {
         let root = self.extend(leaf, Way::Root);
         let end = self.insert_path(root, from);
         let Grid { nodes, .. } = self;
-        let node = nodes[end as usize];
-        nodes[end as usize] = node.keeping(kept);
+        nodes[end as usize].keep(kept);
     }
 }

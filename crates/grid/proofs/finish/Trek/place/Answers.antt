@@ -11,14 +11,14 @@ pub returns : goal.returns
 returns c =
     let N = c.args.nodes.now in
     let p = c.args.at in
-    let node = c.finished-node.result in
+    let node = c.finish.new.self in
     let memory : c.if-at-nodes.nodes ≡ set N p node =
     elim c.if-at-nodes.branch [
       | then-at-nodes w ↦ w.nodes-is
       | else-at-nodes w ↦ w.nodes-is ∙ sym (set_past N p node w.if-at-nodes.false)
     ] in
     let is : node ≡ finish_in (node_at N p) c.args.beside c.args.above =
-    c.finished-node.ensures ∙ ap (λ (n : Node). finish_in n c.args.beside c.args.above) c.look.ensures in
+    c.finish.ensures ∙ ap (λ (n : Node). finish_in n c.args.beside c.args.above) c.look-node.ensures in
     let kept = c.kept.ensures in
     ap {B = List Node × Trek} (λ (M : List Node). (M, record { at = p; beside = c.args.beside; kept = c.kept.result })) memory
     ∙ (λ i. (set N p (is i), record { at = p; beside = c.args.beside; kept = (kept ∙ ap kept_of is) i }))

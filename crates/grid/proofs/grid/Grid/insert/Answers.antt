@@ -16,7 +16,7 @@ invariant_of-self g c =
     let self = c.insert_path-end.new.self in
     let N = self.nodes.now in
     let e = c.insert_path-end.result in
-    let s = subst (λ (n : Node). Safe self.used (set N e n)) (sym c.keeping.ensures)
+    let s = subst (λ (n : Node). Safe self.used (set N e n)) (sym c.keep.ensures)
     (safe_set self.used N e (keep_in (node_at N e) c.args.kept) (record { fits = self.fits; linked = self.linked; rest = self.rest }) c.insert_path-end.ensures.found
     (links_keep self.used (node_at N e) c.args.kept (sound_at self.used N e self.linked))) in
     record { fits = s.fits; linked = s.linked; rest = s.rest }
@@ -35,14 +35,14 @@ returns g c =
     record {
       most = omega (arith, c.insert_path-end.ensures.most, c.extend-root.ensures.most, c.insert_path-leaf.ensures.most, c.plant.ensures.count);
       places =
-          length-set self4.nodes.now end c.keeping.result
+          length-set self4.nodes.now end c.keep.new.self
           ∙ c.insert_path-end.ensures.places ∙ c.extend-root.ensures.places ∙ c.insert_path-leaf.ensures.places ∙ c.plant.ensures.places;
       grid = λ own keys st.
           let g1 = c.plant.ensures.grid own keys st in
           let g2 = c.insert_path-leaf.ensures.grid own g1.more None g1.state g1.here in
           let g3 = c.extend-root.ensures.grid own g2.more (in_trie None D) g2.state g2.here refl in
           let g4 = c.insert_path-end.ensures.grid own g3.more (Some D) g3.state g3.here in
-          subst (λ (n : Node). Inserted own keys D s c.args.kept (set self4.nodes.now end n) self4.used) (sym c.keeping.ensures)
+          subst (λ (n : Node). Inserted own keys D s c.args.kept (set self4.nodes.now end n) self4.used) (sym c.keep.ensures)
           (inserted own keys D s c.args.kept self1.nodes.now self1.used self2.nodes.now self2.used c.insert_path-leaf.result self3.nodes.now self3.used
           c.extend-root.result self4.nodes.now self4.used end g1 g2 g3 g4);
     }
