@@ -29,9 +29,7 @@ pub(crate) fn take_out<R: Copy>(places: &mut [R], used: usize, at: usize) -> usi
 }
 
 // The filter that a place holds, if it holds one.
-fn filter_of<D: Address, S: Address, C: Cost>(
-    place: &Record<D, S, C>,
-) -> Option<Filter<D, S, C>>
+fn filter_of<D: Address, S: Address, C: Cost>(place: &Record<D, S, C>) -> Option<Filter<D, S, C>>
     ensures meaning { option_to_list (option_map (rule_of D.Address.string S.Address.string) result) ≡ held D.Address.spells S.Address.spells C.Written.reads place.now }
     ensures back { (f : Filter D S C) → place.now ≡ record_of D.Written.pattern S.Written.pattern C.Written.pattern f → result ≡ Some f }
 {

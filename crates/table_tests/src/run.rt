@@ -99,7 +99,15 @@ fn holds(heap: Global, case: &str) -> Result<bool, FromHexError> {
     Ok(text.as_str() == expected)
 }
 
-// The cases of a table that do not hold, or are not written as cases.
+// The cases of a table that do not hold, or are not written as cases. Crate packet_tests has the same: one function for both would take
+// the test as a closure, in a crate of its own, and its contract could say nothing of so many answers.
 pub fn failing(heap: Global, table: &str) -> Result<String, FromHexError> {
-    case_tables::failing(heap, table, |case| holds(heap, case))
+    let mut cases = String::new(heap);
+    for case in table.lines() {
+        if !holds(heap, case)? {
+            cases.push_str(case)?;
+            cases.push('\n')?;
+        }
+    }
+    Ok(cases)
 }
