@@ -15,7 +15,7 @@ use grid::trail::TrailFault;
 use kinds::address::Address;
 use kinds::cost::Cost;
 
-// A call of a gateway, with its arguments.
+// A call of a gateway, with its arguments. An enum and no closures: what a history leaves is defined from its calls as data.
 #[derive(Clone, Copy)]
 pub enum Call<'c, D, S, C> {
     Add(Filter<D, S, C>),
@@ -76,7 +76,8 @@ fn make_call<D: Address, S: Address, C: Cost>(
     }
 }
 
-// Makes a book and a grid in memory of any content, makes the calls, and looks two addresses up.
+// Makes a book and a grid in memory of any content, makes the calls, and looks two addresses up. The three memories are lent one by
+// one: of a struct that lends them, the check does not cover what is lent on to a book and a grid.
 pub fn replay<D: Address, S: Address, C: Cost>(
     places: &mut [Record<D, S, C>],
     nodes: &mut [Node],

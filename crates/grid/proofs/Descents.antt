@@ -11,7 +11,8 @@ use Rattle.tries.proofs.Finds.{dst_front, src_dst}
 use Rattle.tries.proofs.Visits.{until_map}
 use Rattle.grid.specs.declared.node.Node.{Node}
 use Rattle.grid.specs.declared.search.Walk.{Walk}
-use Rattle.grid.specs.Nodes.{child_of, or_else, root_of}
+use Rattle.std.specs.Option.{option_or}
+use Rattle.grid.specs.Nodes.{child_of, root_of}
 use Rattle.grid.specs.Derived.{Key, destination, source, key_eq, is_key, place, node_of}
 use Rattle.grid.specs.Steps.{onward, along, entered, step_down}
 use Rattle.grid.proofs.Places.{place_has, place_none, place_any, node_at_lem}
@@ -51,7 +52,7 @@ module _ {C : Type 0} (lt : Rule C → Rule C → Bool) (F : List (Rule C)) (key
   -- the descent ended at e; w was at the node of the empty string, and acc was the last root before it
   pub record Fallen (p q : Str → Bool) (at : Str → Option ℕ) (w e : Walk ℕ) (acc : Option ℕ) (r : Str) : Type 0 where
     pub visits : e.visits + 1 ≡ w.visits + length (until q (fronts r))
-    pub root : e.kept ≡ or_else (found at (longest p r)) acc
+    pub root : e.kept ≡ option_or (found at (longest p r)) acc
 
   -- p, q and at are of the strings that begin with t: whether they have a source root, a destination node, and where the root is
   pub record Under (t : Str) (p q : Str → Bool) (at : Str → Option ℕ) : Type 0 where
@@ -105,15 +106,15 @@ module _ {C : Type 0} (lt : Rule C → Rule C → Bool) (F : List (Rule C)) (key
             ]
 
     -- a longer root takes the place of the last one
-    root_more : (b : Bool) (r : Str) (acc root : Option ℕ) → root ≡ or_else (at []) acc
-        → or_else (found (λ u. at (b ∷ u)) (longest (λ u. p (b ∷ u)) r)) root ≡ or_else (found at (longest p (b ∷ r))) acc
+    root_more : (b : Bool) (r : Str) (acc root : Option ℕ) → root ≡ option_or (at []) acc
+        → option_or (found (λ u. at (b ∷ u)) (longest (λ u. p (b ∷ u)) r)) root ≡ option_or (found at (longest p (b ∷ r))) acc
     root_more b r acc root k = go (longest (λ u. p (b ∷ u)) r) refl
       where
-        some : (o : Option ℕ) (n : ℕ) → o ≡ Some n → or_else o root ≡ or_else o acc
+        some : (o : Option ℕ) (n : ℕ) → o ≡ Some n → option_or o root ≡ option_or o acc
         some o n e = rw e refl
 
-        go : (o : Option Str) → longest (λ u. p (b ∷ u)) r ≡ o → or_else (found (λ u. at (b ∷ u)) o) root ≡ or_else (found at (further b (p []) o)) acc
-        go None e = k ∙ ap (λ (o : Option ℕ). or_else o acc) (at_last b)
+        go : (o : Option Str) → longest (λ u. p (b ∷ u)) r ≡ o → option_or (found (λ u. at (b ∷ u)) o) root ≡ option_or (found at (further b (p []) o)) acc
+        go None e = k ∙ ap (λ (o : Option ℕ). option_or o acc) (at_last b)
         go (Some u) e = let m = at_has (b ∷ u) (longest_some (λ v. p (b ∷ v)) r u e).1 in some (at (b ∷ u)) m.0 m.1
 
   -- the node of t leads by b where the definition says
@@ -122,12 +123,12 @@ module _ {C : Type 0} (lt : Rule C → Rule C → Bool) (F : List (Rule C)) (key
   falls t true = refl
 
   pub fall_is : (r t : Str) (p q : Str → Bool) (at : Str → Option ℕ) → Under t p q at → (w : Walk ℕ) (acc : Option ℕ)
-      → place (destination t) keys ≡ Some w.at → w.kept ≡ or_else (at []) acc → Fallen p q at w (along (step_down N) w r) acc r
+      → place (destination t) keys ≡ Some w.at → w.kept ≡ option_or (at []) acc → Fallen p q at w (along (step_down N) w r) acc r
   fall_is [] t p q at h w acc e k =
       let here = stands_here t p q at h w.at e in
       record {
         visits = rw here refl;
-        root = k ∙ ap (λ (o : Option ℕ). or_else o acc) (at_end t p q at h);
+        root = k ∙ ap (λ (o : Option ℕ). option_or o acc) (at_end t p q at h);
       }
   fall_is (b ∷ r) t p q at h w acc e k =
       subst (λ (o : Option ℕ). Fallen p q at w (onward (option_map (entered N w.kept w.visits) o) w (λ v. along (step_down N) v r)) acc (b ∷ r))
@@ -140,8 +141,8 @@ module _ {C : Type 0} (lt : Rule C → Rule C → Bool) (F : List (Rule C)) (key
             let z = node_at_lem (node_of lt F keys) keys N rest nodes (destination (snoc t b)) m.0 m.1 in
             let c =
             fall_is r (snoc t b) (λ u. p (b ∷ u)) (λ u. q (b ∷ u)) (λ u. at (b ∷ u)) h' v w.kept m.1
-            (ap (λ (n : Node). or_else (root_of n) w.kept) z
-            ∙ ap (λ (o : Option ℕ). or_else o w.kept) (sym (at_root (snoc t b) (λ u. p (b ∷ u)) (λ u. q (b ∷ u)) (λ u. at (b ∷ u)) h'))) in
+            (ap (λ (n : Node). option_or (root_of n) w.kept) z
+            ∙ ap (λ (o : Option ℕ). option_or o w.kept) (sym (at_root (snoc t b) (λ u. p (b ∷ u)) (λ u. q (b ∷ u)) (λ u. at (b ∷ u)) h'))) in
             let cv = c.visits in
             let more = until_some q b r (stands_here t p q at h w.at e) in
             subst (λ (o : Option ℕ). Fallen p q at w (onward (option_map (entered N w.kept w.visits) o) w (λ v. along (step_down N) v r)) acc (b ∷ r)) (sym m.1)
@@ -154,7 +155,7 @@ module _ {C : Type 0} (lt : Rule C → Rule C → Bool) (F : List (Rule C)) (key
             (record {
               visits = omega arith;
               root =
-                  k ∙ ap (λ (o : Option ℕ). or_else o acc) (at_last t p q at h b)
-                  ∙ ap (λ (o : Option Str). or_else (found at (further b (p []) o)) acc) (sym (none_below t p q at h b r y));
+                  k ∙ ap (λ (o : Option ℕ). option_or o acc) (at_last t p q at h b)
+                  ∙ ap (λ (o : Option Str). option_or (found at (further b (p []) o)) acc) (sym (none_below t p q at h b r y));
             })
       ])

@@ -21,7 +21,8 @@ use Rattle.grid.specs.declared.node.Kept.{Kept}
 use Rattle.grid.specs.declared.node.Node.{Node}
 use Rattle.grid.specs.declared.node.Node.TheVariants.{Empty}
 use Rattle.grid.specs.declared.search.Walk.{Walk}
-use Rattle.grid.specs.Nodes.{node_at, root_of, kept_of, or_else}
+use Rattle.std.specs.Option.{option_or}
+use Rattle.grid.specs.Nodes.{node_at, root_of, kept_of}
 use Rattle.grid.specs.Derived.{Key, destination, source, key_eq, later, place, Rooted, node_of, Derived}
 use Rattle.grid.specs.Steps.{along, entered, step_down, places_down, met, step_on, places_on, told}
 use Rattle.grid.specs.Trails.{visited, Noted}
@@ -77,7 +78,7 @@ module _ {C : Type 0} (lt : Rule C → Rule C → Bool) (F : List (Rule C)) (N :
       (sym end)
       (fall_is lt F g.keys g.whole N (replicate (length N - used) Empty) g.nodes d [] (λ D. has_src F D []) (has_dst F) (λ D. place (source D []) g.keys)
       (record { leads = λ u. refl; stands = λ u. refl; place_of = λ u. refl })
-      (entered N None 0 0) None p (ap (λ (n : Node). or_else (root_of n) None) (node_of_lem (destination []) 0 p)))
+      (entered N None 0 0) None p (ap (λ (n : Node). option_or (root_of n) None) (node_of_lem (destination []) 0 p)))
 
   -- the notes are the places of the destination nodes on the way
   down_places : map Some (places_down N (entered N None 0 0) d) ≡ map (λ k. place k g.keys) (map destination (way (has_dst F) d))

@@ -11,13 +11,14 @@ use Rattle.tries.proofs.Longest.{longest_some, longest_or}
 use Rattle.grid.specs.declared.node.Kept.{Kept}
 use Rattle.grid.specs.declared.node.Node.{Node}
 use Rattle.grid.specs.declared.search.Walk.{Walk}
-use Rattle.grid.specs.Nodes.{next_of, or_else, kept_of, pick_kept}
+use Rattle.std.specs.Option.{option_or}
+use Rattle.grid.specs.Nodes.{next_of, kept_of, pick_kept}
 use Rattle.grid.specs.Derived.{Key, source, key_eq, is_key, place, place_of, keep, node_of}
 use Rattle.grid.specs.Steps.{onward, along, met, step_on}
 use Rattle.grid.proofs.Places.{place_has, place_none, node_at_lem}
 use Rattle.grid.proofs.Ranks.{pick_all}
 
-pub else_none : {X : Type 0} (o : Option X) → or_else o None ≡ o
+pub else_none : {X : Type 0} (o : Option X) → option_or o None ≡ o
 else_none None = refl
 else_none (Some x) = refl
 
@@ -28,17 +29,17 @@ next_has has D s A b e = (longest_some (λ P. has P (snoc s b)) D A (longest_or 
 -- ---- a list of filters, and keys that are just those of its grid
 module _ {C : Type 0} (lt : Rule C → Rule C → Bool) (F : List (Rule C)) (keys : List Key) (whole : (k : Key) → any (key_eq k) keys ≡ is_key F k) where
   -- child or switch, at each string t of a source
-  leads_to : (D t : Str) → or_else (place (source D t) keys) (cond (has_src F D t) None (place_of keys t (longest_proper (λ A. has_src F A t) D)))
+  leads_to : (D t : Str) → option_or (place (source D t) keys) (cond (has_src F D t) None (place_of keys t (longest_proper (λ A. has_src F A t) D)))
       ≡ place_of keys t (cond (has_src F D t) (Some D) (longest_proper (λ A. has_src F A t) D))
   leads_to D t =
       elim (cases_Bool (has_src F D t)) [
         | inl e ↦
-            ap (λ (x : Bool). or_else (place (source D t) keys) (cond x None (place_of keys t (longest_proper (λ A. has_src F A t) D)))) e
+            ap (λ (x : Bool). option_or (place (source D t) keys) (cond x None (place_of keys t (longest_proper (λ A. has_src F A t) D)))) e
             ∙ else_none (place (source D t) keys)
             ∙ ap (λ (x : Bool). place_of keys t (cond x (Some D) (longest_proper (λ A. has_src F A t) D))) (sym e)
         | inr e ↦
-            ap (λ (x : Bool). or_else (place (source D t) keys) (cond x None (place_of keys t (longest_proper (λ A. has_src F A t) D)))) e
-            ∙ ap (λ (o : Option ℕ). or_else o (place_of keys t (longest_proper (λ A. has_src F A t) D))) (place_none (source D t) keys (whole (source D t) ∙ e))
+            ap (λ (x : Bool). option_or (place (source D t) keys) (cond x None (place_of keys t (longest_proper (λ A. has_src F A t) D)))) e
+            ∙ ap (λ (o : Option ℕ). option_or o (place_of keys t (longest_proper (λ A. has_src F A t) D))) (place_none (source D t) keys (whole (source D t) ∙ e))
             ∙ ap (λ (x : Bool). place_of keys t (cond x (Some D) (longest_proper (λ A. has_src F A t) D))) (sym e)
       ]
 

@@ -2,9 +2,10 @@
 use Rattle.std.proofs.Common.{◌≡◌, ℕ, Bool, true, false, ◌&&◌, Some, None, Option}
 use Rattle.std.proofs.lemmas.Bool.{and_parts}
 use Rattle.grid.specs.declared.node.Node.{Node}
-use Rattle.grid.specs.Nodes.{child_of, switch_of, next_of, or_else, root_of, within, links_within}
+use Rattle.std.specs.Option.{option_or}
+use Rattle.grid.specs.Nodes.{child_of, switch_of, next_of, root_of, within, links_within}
 
-pub else_within : (used : ℕ) (x y : Option ℕ) → within used x ≡ true → within used y ≡ true → within used (or_else x y) ≡ true
+pub else_within : (used : ℕ) (x y : Option ℕ) → within used x ≡ true → within used y ≡ true → within used (option_or x y) ≡ true
 else_within used None y h k = k
 else_within used (Some p) y h k = h
 

@@ -1,5 +1,6 @@
 -- Nodes in memory: what a node's readings say, and which memory is sound.
 use Rattle.std.specs.Prelude.{ℕ, Bool, true, false, cond, ◌&&◌, List, [], ◌∷◌, Some, None, Option, nat_lt, slice_index_or}
+use Rattle.std.specs.Option.{option_or}
 use Rattle.grid.specs.declared.node.Kept.{Kept}
 use Rattle.grid.specs.declared.node.Links.{Links}
 use Rattle.grid.specs.declared.node.Node.{Node}
@@ -37,14 +38,9 @@ switch_of Empty b = None
 switch_of (Destination c r) b = None
 switch_of (Source c x k) b = link_by x b
 
--- the first where there is one, and else the second
-abbrev pub or_else : {X : Type 0} → Option X → Option X → Option X
-or_else None y = y
-or_else (Some p) y = Some p
-
 -- where a search goes by a bit: to the child, or else along the switch
 abbrev pub next_of : Node → Bool → Option ℕ
-next_of n b = or_else (child_of n b) (switch_of n b)
+next_of n b = option_or (child_of n b) (switch_of n b)
 
 -- the root of the source trie that a destination node leads to
 abbrev pub root_of : Node → Option ℕ

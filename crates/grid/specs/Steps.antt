@@ -6,7 +6,8 @@ use Rattle.filters.specs.declared.directive.Directive.{Directive}
 use Rattle.grid.specs.declared.node.Kept.{Kept}
 use Rattle.grid.specs.declared.node.Node.{Node}
 use Rattle.grid.specs.declared.search.Walk.{Walk}
-use Rattle.grid.specs.Nodes.{node_at, child_of, next_of, or_else, root_of, kept_of, pick_kept}
+use Rattle.std.specs.Option.{option_or}
+use Rattle.grid.specs.Nodes.{node_at, child_of, next_of, root_of, kept_of, pick_kept}
 
 -- what comes after a step that leads on, or where it stopped
 abbrev pub onward : {X : Type 0} → Option X → X → (X → X) → X
@@ -47,7 +48,7 @@ module _ {K : Type 0} (leads : Node → Bool → Option ℕ) (keeps : Option K �
 
 -- the source root of a destination node, where it has one, takes the place of the last
 abbrev pub last_root : Option ℕ → Node → Option ℕ
-last_root root n = or_else (root_of n) root
+last_root root n = option_or (root_of n) root
 
 abbrev pub entered : List Node → Option ℕ → ℕ → ℕ → Walk ℕ
 entered = visited last_root
