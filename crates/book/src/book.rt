@@ -9,7 +9,8 @@ use kinds::cost::Cost;
 
 mod calls;
 
-// A book of filters with destinations of kind D, sources of kind S and costs of kind C.
+// A book of filters with destinations of kind D, sources of kind S and costs of kind C. The places are lent and none is allocated, so
+// those in use are counted beside them.
 #[derive(Drop)]
 pub struct Book<'m, D: Address, S: Address, C: Cost> {
     places: &'m mut [Record<D, S, C>],

@@ -64,15 +64,14 @@ fn five(i: usize, cost_of_three: u32) -> Option<Filter<Socket, Socket, Rank>> {
 #[test]
 fn five_filters(rt: HostRuntime) -> Result<(), Fail> {
     // the filters in their order, and the last first
-    for turned in [false, true] {
+    for order in [[0, 1, 2, 3, 4], [4, 3, 2, 1, 0]] {
         let mut memory = [JUNK; 7];
         let mut dearer = [JUNK; 5];
         let mut book = Book::<Socket, Socket, Rank>::new(&mut memory);
         let mut other = Book::<Socket, Socket, Rank>::new(&mut dearer);
-        for i in 0..5 {
-            let next = if turned { 4 - i } else { i };
-            book.add(&five(next, 3).ok_or(i)?)?;
-            other.add(&five(next, 30).ok_or(i)?)?;
+        for i in order {
+            book.add(&five(i, 3).ok_or(i)?)?;
+            other.add(&five(i, 30).ok_or(i)?)?;
         }
         for (destination, source, label, _, with_thirty) in SEARCHES {
             assert_eq!(rt;

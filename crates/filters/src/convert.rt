@@ -1,4 +1,5 @@
-// From a filter to the record that keeps it, and back.
+// From a filter to the record that keeps it, and back. Functions and no From and TryFrom: both are filters, and std's impl of a type
+// from itself would overlap.
 ghost use Rattle.std.specs.Prelude.{◌≡◌, Ok};
 ghost use Rattle.std.specs.Option.{option_map, option_to_list};
 ghost use Rattle.std.specs.Result.{result_ok};

@@ -1,5 +1,5 @@
 -- What a decision answers: the lookup of a packet's destination with its source address, or with the socket it came in by.
-use Rattle.std.specs.Prelude.{◌≡◌, ℕ, Ok, Err, Result}
+use Rattle.std.specs.Prelude.{◌≡◌, Ok, Err, Result}
 use Rattle.kinds.specs.Strings.{Str, bits}
 use Rattle.packets.specs.declared.fault.PacketFault.{PacketFault}
 use Rattle.packets.specs.Datagram.{Datagram}

@@ -13,7 +13,7 @@ pub struct Kept {
     pub directive: Directive,
 }
 
-// Links by bit 0 and 1: places in the memory of nodes.
+// Links by bit 0 and 1: places in the memory of nodes, and no boxes, since that memory is lent and there is no heap.
 #[derive(Clone, Copy)]
 pub struct Links {
     pub zero: Option<u32>,

@@ -40,6 +40,7 @@ fn trail_need<D: Address, S: Address>() -> usize
 impl<'m, D: Address, S: Address, C: Cost> Grid<'m, D, S, C> {
     // Classifies, and writes the places of the visited nodes in order, from the trail's first place on. Where the trail has fewer
     // places than a search may visit nodes it is refused; then nothing is written, and else nothing behind the visited nodes.
+    // Addresses and trail are no struct: it would be made for the call alone.
     pub fn trail(
         &self,
         destination: &D,

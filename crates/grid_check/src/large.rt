@@ -1,4 +1,5 @@
 // As many filters as a book holds.
+use crate::drawn::add_drawn;
 use crate::tell::tell_build;
 use book::book::Book;
 use filters::filter::Prefix;
@@ -6,7 +7,7 @@ use filters::search::linear_search;
 use grid::grid::Grid;
 use kinds::ipv4::Ipv4;
 use kinds::rank::Rank;
-use samples::generate::{Generator, add_drawn, behind};
+use samples::generate::{Generator, behind};
 use samples::junk;
 use samples::tally::Tally;
 

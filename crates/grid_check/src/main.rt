@@ -1,6 +1,7 @@
 // Builds grids and searches them, and prints what comes out: the searches worked by hand, and many more against linear search.
 #![tactic(auto)]
 
+mod drawn;
 mod edges;
 mod large;
 mod reuse;

@@ -1,4 +1,5 @@
 // A long table and then a short one in the same memory, against the short one in fresh memory, on every pair of addresses.
+use crate::drawn::add_drawn;
 use crate::tell::tell_build;
 use book::book::Book;
 use filters::directive::Directive;
@@ -6,7 +7,7 @@ use filters::search::linear_search;
 use grid::grid::Grid;
 use kinds::address::Address;
 use kinds::rank::Rank;
-use samples::generate::{Generator, add_drawn};
+use samples::generate::Generator;
 use samples::junk;
 use samples::tally::Tally;
 use samples::tiny::Tiny;

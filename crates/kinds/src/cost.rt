@@ -1,4 +1,4 @@
-// A cost kind: its values compare as before, equal or after.
+// A cost kind: its values compare as before, equal or after. It asks no Ord of a kind, which may tie costs that `==` tells apart.
 ghost use Rattle.std.specs.Prelude.{◌≡◌, true};
 ghost use Rattle.std.specs.declared.cmp.Ordering.{Ordering};
 ghost use Rattle.std.specs.Ordering.{ordering_reverse, is_le};

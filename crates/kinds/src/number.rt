@@ -34,6 +34,7 @@ pub struct Number<K: NumberKind, P: Plain> {
 
 impl<K: NumberKind, P: Plain> Copy for Number<K, P> {}
 
+// Not derived: no derive makes a Clone of a generic struct with a ghost field.
 impl<K: NumberKind, P: Plain> Clone for Number<K, P> {
     ghost is_clone = { λ it copy. copy ≡ it };
 

@@ -1,4 +1,5 @@
-// Plain whole numbers: what a pattern is kept as in memory that is handed in.
+// Plain whole numbers: what a pattern is kept as in memory that is handed in. One impl a type: std's bounds on numbers, as Into<u128>,
+// say nothing of the number in generic code, and a macro may not write impls.
 ghost use Rattle.std.specs.Prelude.{◌≡◌, ℕ, ◌%◌, ◌^◌, ◌<◌, ◌≤◌};
 ghost use Rattle.std.proofs.Common.{rules};
 ghost use Rattle.kinds.specs.Strings.{weighs};

@@ -7,7 +7,7 @@ mod histories;
 use crate::histories::compare_tables;
 use book::book::Book;
 use kinds::rank::Rank;
-use samples::generate::{Generator, add_drawn};
+use samples::generate::{Generator, draw_filter};
 use samples::junk;
 use samples::tally::Tally;
 use samples::tiny::Tiny;
@@ -51,7 +51,10 @@ fn compare_all(heap: Global, long: &[u8], short: &[u8]) -> anyhow::Result<Tally>
 fn draw_table(heap: Global, generator: &mut Generator, count: u16) -> anyhow::Result<Vec<u8>> {
     let mut places = [junk::record(0u8); PLACES];
     let mut book = Book::<Tiny, Tiny, Rank>::new(&mut places);
-    add_drawn(&mut book, generator, count);
+    // of the largest label first: the smaller label then is not the earlier filter
+    for label in (1..=count).rev() {
+        let _ = book.add(&draw_filter(generator, label));
+    }
     let mut table = vec![in heap; 0u8; 1024]?;
     let size = book.write(table.as_mut_slice()).unwrap_or(0);
     table.truncate(size);

@@ -3,7 +3,6 @@ ghost use Rattle.std.specs.Prelude.{◌≡◌};
 ghost use Rattle.samples.specs.Draws.{next, drawn};
 
 use crate::address::address;
-use book::book::Book;
 use filters::directive::Directive;
 use filters::filter::{Filter, Prefix};
 use kinds::address::Address;
@@ -74,13 +73,5 @@ pub fn draw_filter<A: Address>(generator: &mut Generator, label: u16) -> Filter<
         source,
         cost: Rank::new(generator.draw() % 64),
         directive: directive_of(label),
-    }
-}
-
-// Adds so many filters that are drawn, of the largest label first: the smaller label then is not the earlier filter. Those that the
-// book refuses are left out.
-pub fn add_drawn<A: Address>(book: &mut Book<A, A, Rank>, generator: &mut Generator, count: u16) {
-    for label in (1..=count).rev() {
-        let _ = book.add(&draw_filter(generator, label));
     }
 }

@@ -1,4 +1,6 @@
 // How many lookups were compared and how many of them differed, and the sums of what they answered.
+ghost use Rattle.std.specs.Prelude.{◌≡◌, ℕ, ◌+◌, ◌-◌, ◌^◌, min, if◌then◌else◌, MatchOption};
+
 use filters::directive::Directive;
 use std::fmt;
 
@@ -11,7 +13,13 @@ pub struct Tally {
 }
 
 impl Tally {
-    pub fn new() -> Tally {
+    // No lookup is counted yet.
+    pub fn new() -> Tally
+        ensures compared { result.compared ≡ 0 }
+        ensures differed { result.differed ≡ 0 }
+        ensures labels { result.labels ≡ 0 }
+        ensures visits { result.visits ≡ 0 }
+    {
         Tally {
             compared: 0,
             differed: 0,
@@ -20,8 +28,13 @@ impl Tally {
         }
     }
 
-    // Counts a lookup by its answer, and by whether that is what was wanted.
-    pub fn count(&mut self, answer: (Option<(u16, Directive)>, u32), wanted: bool) {
+    // Counts a lookup by its answer, and by whether that is what was wanted. Each count stops at the most that it can hold.
+    pub fn count(&mut self, answer: (Option<(u16, Directive)>, u32), wanted: bool)
+        ensures compared { self.new.compared ≡ min (self.old.compared + 1) (2 ^ 32 - 1) }
+        ensures differed { self.new.differed ≡ (if wanted then self.old.differed else min (self.old.differed + 1) (2 ^ 32 - 1)) }
+        ensures labels { MatchOption answer.0 (self.new.labels ≡ self.old.labels) (λ c. self.new.labels ≡ min (self.old.labels + c.0) (2 ^ 64 - 1)) }
+        ensures visits { self.new.visits ≡ min (self.old.visits + answer.1) (2 ^ 64 - 1) }
+    {
         let (choice, visits) = answer;
         self.compared = self.compared.saturating_add(1);
         if !wanted {
@@ -34,8 +47,11 @@ impl Tally {
     }
 
     // How many lookups were compared.
-    pub fn compared(&self) -> u32 {
-        self.compared
+    pub fn compared(&self) -> u32
+        ensures { result ≡ self.now.compared }
+    {
+        let Tally { compared, .. } = *self;
+        compared
     }
 }
 

@@ -38,10 +38,7 @@ fn turns<D: Address, S: Address, C: Cost>(
         cost: C::Pattern::narrow(0),
         directive: Directive::Block,
     };
-    let mut places = Vec::new(heap);
-    for _ in 0..capacity {
-        places.push(empty)?;
-    }
+    let mut places = vec![in heap; empty; capacity]?;
     let mut buffer = vec![in heap; 0xaau8; table.len()]?;
     buffer.push(0xbb)?;
     let turned = load_and_write::<D, S, C>(table, places.as_mut_slice(), buffer.as_mut_slice());
@@ -69,7 +66,7 @@ fn outcome<D: Address, S: Address, C: Cost>(
     }
 }
 
-// The same for the kinds with these codes.
+// The same for the kinds with these codes. One arm a line: each runs code of other types, which no table of values can name.
 fn answer(heap: Global, kinds: &str, table: &[u8], capacity: usize) -> Result<String, AllocError> {
     match kinds {
         "111" => outcome::<Ipv4, Ipv4, Rank>(heap, table, capacity),
@@ -81,7 +78,7 @@ fn answer(heap: Global, kinds: &str, table: &[u8], capacity: usize) -> Result<St
     }
 }
 
-// The kinds, the capacity, the table and the answer expected of a case, which is written as `NAME: KINDS CAPACITY TABLE -> ANSWER`; none where it is no case.
+// The kinds, the capacity, the table and the answer expected of a case, `NAME: KINDS CAPACITY TABLE -> ANSWER`; none where it is no case.
 fn parts(case: &str) -> Option<(&str, usize, &str, &str)> {
     let (_, rest) = case.split_once(": ")?;
     let (input, expected) = rest.split_once(" -> ")?;

@@ -1,4 +1,4 @@
-// Writing a table.
+// Writing a table. The buffer is lent, and its length in use is answered: there is no heap to make one in.
 ghost use Rattle.std.specs.Prelude.{◌≡◌, ℕ, ◌*◌, ◌≤◌, ◌++◌, map, length, drop};
 ghost use Rattle.tables.specs.Format.{kind_of, entry_of, record_size, encode, encode_head, encode_records};
 ghost use Rattle.tables.specs.Memory.{write_verdict, written};
