@@ -8,7 +8,7 @@ ghost use Rattle.filters.specs.Refusals.{filter_verdict};
 ghost use Rattle.filters.specs.Rules.{Rule};
 ghost use Rattle.tables.specs.Verdict.{has, labels};
 ghost use Rattle.book.specs.Labels.{without};
-ghost use Rattle.tables.specs.Format.{kind, entry_of, decode, encode};
+ghost use Rattle.tables.specs.Format.{kind_of, entry_of, decode, encode};
 ghost use Rattle.tables.specs.Memory.{Loaded, write_verdict, written};
 ghost use Rattle.book.specs.Loads.{count_after, table_rules, load_verdict};
 ghost use Rattle.book.specs.Books.{capacity_of, add_verdict, withdraw_verdict, after, in_use};
@@ -131,10 +131,10 @@ impl<'m, D: Address, S: Address, C: Cost> Book<'m, D, S, C> {
     // Makes the book exactly the filters of a table, in its order; places behind them stay. The whole table is checked before
     // the first place is written, so a refused table changes nothing. It answers how many filters the table has.
     pub fn load(&mut self, table: &[u8]) -> Result<usize, LoadFault>
-        ensures answer { result ≡ load_verdict (kind D.Written.CODE D.Written.SIZE) (kind S.Written.CODE S.Written.SIZE) (kind C.Written.CODE C.Written.SIZE) C.Written.value (capacity_of (length self.old.places.now)) table.now }
-        ensures memory { Loaded (entry_of D.Written.number S.Written.number C.Written.number) (decode (kind D.Written.CODE D.Written.SIZE) (kind S.Written.CODE S.Written.SIZE) (kind C.Written.CODE C.Written.SIZE) table.now) self.old.places.now self.new.places.now result }
+        ensures answer { result ≡ load_verdict (kind_of D.Written) (kind_of S.Written) (kind_of C.Written) C.Written.value (capacity_of (length self.old.places.now)) table.now }
+        ensures memory { Loaded (entry_of D.Written.number S.Written.number C.Written.number) (decode (kind_of D.Written) (kind_of S.Written) (kind_of C.Written) table.now) self.old.places.now self.new.places.now result }
         ensures count { self.new.used ≡ count_after result self.old.used }
-        ensures meaning { rules D.Address.spells S.Address.spells C.Written.reads (in_use self.new) ≡ after result (table_rules (kind D.Written.CODE D.Written.SIZE) (kind S.Written.CODE S.Written.SIZE) (kind C.Written.CODE C.Written.SIZE) C.Written.value table.now) (rules D.Address.spells S.Address.spells C.Written.reads (in_use self.old)) }
+        ensures meaning { rules D.Address.spells S.Address.spells C.Written.reads (in_use self.new) ≡ after result (table_rules (kind_of D.Written) (kind_of S.Written) (kind_of C.Written) C.Written.value table.now) (rules D.Address.spells S.Address.spells C.Written.reads (in_use self.old)) }
     {
         let Book { places, used } = self;
         *used = load_table::<D, S, C>(table, places)?;
@@ -143,8 +143,8 @@ impl<'m, D: Address, S: Address, C: Cost> Book<'m, D, S, C> {
 
     // Writes the book as a table from the buffer's start, and answers how many bytes that is; book and later bytes stay.
     pub fn write(&self, buffer: &mut [u8]) -> Result<usize, WriteFault>
-        ensures answer { result ≡ write_verdict (kind D.Written.CODE D.Written.SIZE) (kind S.Written.CODE S.Written.SIZE) (kind C.Written.CODE C.Written.SIZE) self.now.used (length buffer.old) }
-        ensures memory { buffer.new ≡ written result (encode (kind D.Written.CODE D.Written.SIZE) (kind S.Written.CODE S.Written.SIZE) (kind C.Written.CODE C.Written.SIZE) (map (entry_of D.Written.number S.Written.number C.Written.number) (in_use self.now))) buffer.old }
+        ensures answer { result ≡ write_verdict (kind_of D.Written) (kind_of S.Written) (kind_of C.Written) self.now.used (length buffer.old) }
+        ensures memory { buffer.new ≡ written result (encode (kind_of D.Written) (kind_of S.Written) (kind_of C.Written) (map (entry_of D.Written.number S.Written.number C.Written.number) (in_use self.now))) buffer.old }
     {
         write_table::<D, S, C>(self.records(), buffer)
     }
