@@ -3,14 +3,14 @@
     python3 tools/design_places.py [COMMIT]
 
 Of the work tree, or of a commit. Each line is a place; the last lines count them. What a line names is a place to read, no verdict:
-  enum     a declared enum, with its variants (point 1)
-  twin     functions of one shape: the same text once names, types and numbers are blanked (point 2)
-  index    a `for` over a range, or a `while` (point 3)
-  hand     a function that compares, converts, numbers or prints by hand, by its name or its match (point 4)
-  clause   a `requires` that stands in three functions or more, names blanked (point 5)
-  travel   three parameters that stand together in three functions or more (point 5)
-  length   a function that answers a count beside a buffer that it is lent, or takes both (point 6)
-  switch   a match of five arms or more, or one that calls a function in each arm (point 7)
+  enum     a declared enum, with its variants
+  twin     functions of one shape: the same text once names, types and numbers are blanked
+  index    a `for` over a range, or a `while`
+  hand     a function that compares, converts, numbers or prints by hand, by its name or its match
+  clause   a `requires` that stands in three functions or more, names blanked
+  travel   three parameters that stand together in three functions or more
+  length   a function that answers a count beside a buffer that it is lent, or takes both
+  switch   a match of five arms or more, or one that calls a function in each arm
 """
 import collections
 import re
