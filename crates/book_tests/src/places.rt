@@ -42,8 +42,5 @@ pub(crate) fn any(label: u16) -> Plain {
 
 // The number of a refusal of adding, 0 where there is none.
 pub(crate) fn number(answer: Result<(), AddFault>) -> u8 {
-    match answer {
-        Ok(()) => 0,
-        Err(fault) => fault.number(),
-    }
+    answer.err().map_or(0, |fault| fault.number())
 }

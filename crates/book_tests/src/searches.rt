@@ -18,15 +18,17 @@ fn found<D: Address, S: Address, C: Cost>(
     destination: D::Pattern,
     source: S::Pattern,
 ) -> u16 {
-    match linear_search::<D, S, C>(places, &D::of(destination), &S::of(source)) {
-        Some(filter) => filter.label,
-        None => 0,
-    }
+    linear_search::<D, S, C>(places, &D::of(destination), &S::of(source)).map_or(
+        0,
+        |filter| filter.label,
+    )
 }
 
 // Five filters from socket to socket: label, destination (1, 10, empty, 1, 1), source (0, 11, 110, empty, 11), cost,
 // and how many of the five are better
-const FIVE: [(u16, u16, u8, u16, u8, u32, usize); 5] = [
+type Row = (u16, u16, u8, u16, u8, u32, usize);
+
+const FIVE: [Row; 5] = [
     (1, 0x8000, 1, 0x0000, 1, 5, 1),
     (2, 0x8000, 2, 0xc000, 2, 7, 2),
     (3, 0x0000, 0, 0xc000, 3, 3, 0),
@@ -44,9 +46,10 @@ const SEARCHES: [(u16, u16, u16, u16, u16); 6] = [
     (0x8000, 0x0000, 1, 1, 1),
 ];
 
-fn five(i: usize, cost_of_three: u32) -> Option<Filter<Socket, Socket, Rank>> {
-    let (label, destination, length, source, source_length, cost, _) = *FIVE.get(i)?;
-    Some(Filter {
+// The filter of a row; filter 3 has a cost of its own.
+fn five(row: Row, cost_of_three: u32) -> Filter<Socket, Socket, Rank> {
+    let (label, destination, length, source, source_length, cost, _) = row;
+    Filter {
         label,
         destination: Prefix {
             address: Socket::of(destination),
@@ -58,20 +61,22 @@ fn five(i: usize, cost_of_three: u32) -> Option<Filter<Socket, Socket, Rank>> {
         },
         cost: Rank::new(if label == 3 { cost_of_three } else { cost }),
         directive: Directive::Line(1),
-    })
+    }
 }
 
 #[test]
 fn five_filters(rt: HostRuntime) -> Result<(), Fail> {
     // the filters in their order, and the last first
-    for order in [[0, 1, 2, 3, 4], [4, 3, 2, 1, 0]] {
+    let mut turned = FIVE;
+    turned.reverse();
+    for rows in [FIVE, turned] {
         let mut memory = [JUNK; 7];
         let mut dearer = [JUNK; 5];
         let mut book = Book::<Socket, Socket, Rank>::new(&mut memory);
         let mut other = Book::<Socket, Socket, Rank>::new(&mut dearer);
-        for i in order {
-            book.add(&five(i, 3).ok_or(i)?)?;
-            other.add(&five(i, 30).ok_or(i)?)?;
+        for row in rows {
+            book.add(&five(row, 3))?;
+            other.add(&five(row, 30))?;
         }
         for (destination, source, label, _, with_thirty) in SEARCHES {
             assert_eq!(rt;

@@ -4,6 +4,7 @@ use book::book::Book;
 use kinds::rank::Rank;
 use kinds::socket::Socket;
 
+// An enum and no closures: the steps stand in a table, with what each leaves.
 #[derive(Clone, Copy)]
 enum Step {
     Add(u16),
@@ -39,10 +40,7 @@ const STEPS: [(Step, u8, usize, [u16; 6]); 18] = [
 fn take_step(book: &mut Book<Socket, Socket, Rank>, step: Step) -> u8 {
     match step {
         Step::Add(label) => number(book.add(&any(label))),
-        Step::Withdraw(label) => match book.withdraw(label) {
-            Ok(()) => 0,
-            Err(fault) => fault.number(),
-        },
+        Step::Withdraw(label) => book.withdraw(label).err().map_or(0, |fault| fault.number()),
         Step::Clear => {
             book.clear();
             0

@@ -1,9 +1,9 @@
 // As many filters as a book holds.
 use crate::drawn::add_drawn;
+use crate::linear::linear_choice;
 use crate::tell::tell_build;
 use book::book::Book;
 use filters::filter::Prefix;
-use filters::search::linear_search;
 use grid::grid::Grid;
 use kinds::ipv4::Ipv4;
 use kinds::rank::Rank;
@@ -23,14 +23,16 @@ fn draw_within(generator: &mut Generator, prefix: &Prefix<Ipv4>) -> Ipv4 {
 
 // Two addresses that the prefixes of two filters of the book begin.
 fn draw_pair(book: &Book<Ipv4, Ipv4, Rank>, generator: &mut Generator) -> (Ipv4, Ipv4) {
-    let destination = match book.get(generator.draw() as usize % 4095) {
-        Some(filter) => draw_within(generator, &filter.destination),
-        None => Ipv4::new(0),
-    };
-    let source = match book.get(generator.draw() as usize % 4095) {
-        Some(filter) => draw_within(generator, &filter.source),
-        None => Ipv4::new(0),
-    };
+    let first = book.get(generator.draw() as usize % 4095);
+    let destination = first.map_or(
+        Ipv4::new(0),
+        |filter| draw_within(generator, &filter.destination),
+    );
+    let second = book.get(generator.draw() as usize % 4095);
+    let source = second.map_or(
+        Ipv4::new(0),
+        |filter| draw_within(generator, &filter.source),
+    );
     (destination, source)
 }
 
@@ -43,8 +45,7 @@ fn compare_some(
     for _ in 0..SEARCHES {
         let (destination, source) = draw_pair(book, generator);
         let found = grid.classify(&destination, &source);
-        let best = linear_search::<Ipv4, Ipv4, Rank>(book.records(), &destination, &source);
-        let wanted = best.map(|filter| (filter.label, filter.directive));
+        let wanted = linear_choice(book, &destination, &source);
         tally.count(found, found.0 == wanted);
     }
     tally

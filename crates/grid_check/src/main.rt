@@ -4,6 +4,7 @@
 mod drawn;
 mod edges;
 mod large;
+mod linear;
 mod reuse;
 mod tell;
 mod worked;

@@ -1,9 +1,9 @@
 // A long table and then a short one in the same memory, against the short one in fresh memory, on every pair of addresses.
 use crate::drawn::add_drawn;
+use crate::linear::linear_choice;
 use crate::tell::tell_build;
 use book::book::Book;
 use filters::directive::Directive;
-use filters::search::linear_search;
 use grid::grid::Grid;
 use kinds::address::Address;
 use kinds::rank::Rank;
@@ -25,8 +25,9 @@ fn compare_all<F: Fn(&Tiny, &Tiny, (Option<(u16, Directive)>, u32)) -> bool>(
 {
     let mut tally = Tally::new();
     for pair in 0..=u16::MAX {
-        let destination = Tiny::of((pair >> 8) as u8);
-        let source = Tiny::of((pair & 0xff) as u8);
+        let [high, low] = pair.to_be_bytes();
+        let destination = Tiny::of(high);
+        let source = Tiny::of(low);
         let found = grid.classify(&destination, &source);
         let wanted = is_wanted(&destination, &source, found);
         tally.count(found, wanted);
@@ -37,8 +38,7 @@ fn compare_all<F: Fn(&Tiny, &Tiny, (Option<(u16, Directive)>, u32)) -> bool>(
 // Compares the choices with those of linear search.
 fn compare_linear(grid: &Grid<Tiny, Tiny, Rank>, book: &Book<Tiny, Tiny, Rank>) -> Tally {
     compare_all(grid, |destination, source, found| {
-        let best = linear_search::<Tiny, Tiny, Rank>(book.records(), destination, source);
-        found.0 == best.map(|filter| (filter.label, filter.directive))
+        found.0 == linear_choice(book, destination, source)
     })
 }
 

@@ -94,12 +94,9 @@ fn tariffs(rt: HostRuntime) -> Result<(), Fail> {
 }
 
 #[test]
-fn unlawful_tariffs(rt: HostRuntime) -> Result<(), Fail> {
+fn unlawful_tariffs(rt: HostRuntime) {
     for pattern in UNLAWFUL {
-        match Tariff::read(pattern) {
-            Ok(_) => return Err(Fail::new(pattern)),
-            Err(fault) => assert_eq!(rt; fault.number(), 18),
-        }
+        let refused = Tariff::read(pattern).err().map(|fault| fault.number());
+        assert_eq!(rt; refused, Some(18), "{}", pattern);
     }
-    Ok(())
 }

@@ -3,7 +3,7 @@
 mod tests {
     use crate::drip::streamed;
     use hex::decode;
-    use packets::{PacketFault, read};
+    use packets::{PacketFault, Ports, read};
     use report::report;
     use std::test::Fail;
 
@@ -61,21 +61,18 @@ mod tests {
             heap,
             "4500001c0000000040118e97c0000201c63364053132333435363738626579",
         )?;
-        let packet = match read(input.as_slice()) {
-            Ok(packet) => packet,
-            Err(_) => return Err(Fail::new("refused")),
+        let Ok(packet) = read(input.as_slice()) else {
+            return Err(Fail::new("refused"));
         };
         assert_eq!(rt; packet.source().to_bits(), 0xc0000201);
         assert_eq!(rt; packet.destination().to_bits(), 0xc6336405);
         assert_eq!(rt; packet.protocol, 17);
         assert!(rt; packet.payload == b"12345678".as_slice());
-        match packet.ports {
-            Some(ports) => {
-                assert_eq!(rt; ports.source, 0x3132);
-                assert_eq!(rt; ports.destination, 0x3334);
-            }
-            None => return Err(Fail::new("no ports")),
-        }
+        let ports = Ports {
+            source: 0x3132,
+            destination: 0x3334,
+        };
+        assert_eq!(rt; packet.ports, Some(ports));
         assert_eq!(rt; PacketFault::Short.number(), 10);
         assert_eq!(rt; PacketFault::Version.number(), 11);
         assert_eq!(rt; PacketFault::HeaderLength.number(), 12);

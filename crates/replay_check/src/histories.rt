@@ -20,7 +20,8 @@ fn install_all<'t, D: Address, S: Address, C: Cost>(
     Ok(calls)
 }
 
-// Compares the lookups of all pairs of addresses by their first 8 bits, each in the memory that the last one left.
+// Compares the lookups of all pairs of addresses by their first 8 bits, each in the memory that the last one left. The memories are lent
+// one by one, as `replay_two` takes them.
 fn compare<D: Address, S: Address, C: Cost>(
     places: &mut [Record<D, S, C>],
     nodes: &mut [Node],

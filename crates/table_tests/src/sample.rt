@@ -139,9 +139,8 @@ mod tests {
     #[test]
     fn longest(rt: HostRuntime) -> Result<(), Fail> {
         let mut table = bytes(rt.alloc(), "01111fff")?;
-        for label in 1..4096u32 {
-            table.push((label >> 8) as u8)?;
-            table.push((label & 0xff) as u8)?;
+        for label in 1..4096u16 {
+            table.extend_from_slice(label.to_be_bytes().as_slice())?;
             table.extend_from_slice(bytes(
                 rt.alloc(),
                 "00 00000000 00 00000000 00000007 41000000",
