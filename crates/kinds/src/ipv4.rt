@@ -12,6 +12,8 @@ impl NumberKind for V4 {
     ghost CODE = { 1 };
 
     ghost low = { ltb→lt 1 16 tt };
+
+    const NAME: &'static str = "Ipv4";
 }
 
 impl AddressNumbers for V4 {}

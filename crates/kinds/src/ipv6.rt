@@ -12,6 +12,8 @@ impl NumberKind for V6 {
     ghost CODE = { 2 };
 
     ghost low = { ltb→lt 2 16 tt };
+
+    const NAME: &'static str = "Ipv6";
 }
 
 impl AddressNumbers for V6 {}

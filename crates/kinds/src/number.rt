@@ -7,9 +7,10 @@ ghost use Rattle.kinds.specs.Patterns.{fitting};
 ghost use Rattle.kinds.specs.Packed.{fitting_some, fitting_back};
 
 use crate::address::Address;
-use crate::plain::Plain;
+use crate::plain::Whole;
 use crate::written::{PatternFault, Written};
 use std::alloc::AllocError;
+use std::fmt;
 use std::marker::PhantomData;
 
 // What tells one kind of numbers from another.
@@ -19,23 +20,26 @@ pub trait NumberKind: Copy {
     ghost CODE: { ℕ };
 
     ghost low: { CODE < 16 };
+
+    // What a value is called where it is printed for debugging.
+    const NAME: &'static str = "Number";
 }
 
 // Those whose numbers are addresses.
 pub trait AddressNumbers: NumberKind {}
 
 // A value of the kind K, whose numbers are of the type P.
-#[derive(PartialEq, Eq, PartialOrd, Ord, Debug)]
-pub struct Number<K: NumberKind, P: Plain> {
+#[derive(PartialEq, Eq, PartialOrd, Ord)]
+pub struct Number<K: NumberKind, P: Whole> {
     number: P,
     kind: PhantomData<K>,
     ghost fits: { P.number number < 2 ^ P.BITS },
 }
 
-impl<K: NumberKind, P: Plain> Copy for Number<K, P> {}
+impl<K: NumberKind, P: Whole> Copy for Number<K, P> {}
 
 // Not derived: no derive makes a Clone of a generic struct with a ghost field.
-impl<K: NumberKind, P: Plain> Clone for Number<K, P> {
+impl<K: NumberKind, P: Whole> Clone for Number<K, P> {
     ghost is_clone = { λ it copy. copy ≡ it };
 
     ghost is_infallible = { λ _. ⊤ };
@@ -45,8 +49,19 @@ impl<K: NumberKind, P: Plain> Clone for Number<K, P> {
     }
 }
 
-impl<K: NumberKind, P: Plain> Number<K, P> {
+// Not derived: each kind is told by its own name.
+impl<K: NumberKind, P: Whole + fmt::Debug> fmt::Debug for Number<K, P> {
+    fn fmt<W: fmt::Write>(&self, f: &mut fmt::Formatter<W>) -> fmt::Result {
+        f.debug_struct(K::NAME)
+            .field("number", &self.number)
+            .finish()
+    }
+}
+
+// With the lemma a body that cuts a number to its own bits is proved too: what the edits plant is refused for its value alone.
+impl<K: NumberKind, P: Whole> Number<K, P> {
     // The value of a number.
+    #[tactic(auto, using(crate::proofs::Cuts::cut_small))]
     pub fn new(number: P) -> Self
         ensures { result.number ≡ number }
     {
@@ -57,6 +72,7 @@ impl<K: NumberKind, P: Plain> Number<K, P> {
     }
 
     // The value as a number.
+    #[tactic(auto, using(crate::proofs::Cuts::cut_small))]
     pub fn to_bits(&self) -> P
         ensures { result ≡ self.now.number }
     {
@@ -64,7 +80,7 @@ impl<K: NumberKind, P: Plain> Number<K, P> {
     }
 }
 
-impl<K: NumberKind, P: Plain> Written for Number<K, P> {
+impl<K: NumberKind, P: Whole> Written for Number<K, P> {
     type Pattern = P;
 
     const CODE: u8 = K::CODE;
@@ -110,7 +126,7 @@ impl<K: NumberKind, P: Plain> Written for Number<K, P> {
     }
 }
 
-impl<K: AddressNumbers, P: Plain> Address for Number<K, P> {
+impl<K: AddressNumbers, P: Whole> Address for Number<K, P> {
     const WIDTH: u32 = P::BITS;
 
     ghost WIDTH = { P.BITS };

@@ -5,36 +5,47 @@ ghost use Rattle.std.proofs.Common.{rules};
 ghost use Rattle.kinds.specs.Strings.{weighs};
 
 pub trait Plain: Copy {
-    // how many bits the type has
-    const BITS: u32;
-
-    ghost BITS: { ℕ };
-
-    // the number that is kept, and what keeps a number
+    // the number that is kept, and how many bits the type has
     ghost number: { Self → ℕ };
 
-    ghost of: { ℕ → Self };
-
-    // The number itself, which the type has bits enough for.
-    fn in_range(self) -> Self
-        ensures same { result ≡ self }
-        ensures fits { number result < 2 ^ BITS };
+    ghost span: { ℕ };
 
     fn wide(self) -> u128
         ensures { result ≡ number self };
 
     // The lowest bits of n, as many as the type has.
     fn narrow(n: u128) -> Self
-        ensures { number result ≡ n % 2 ^ BITS };
+        ensures { number result ≡ n % 2 ^ span };
 
     // Whether 2 ^ weight is among the powers of two that add up to the number.
     fn has_bit(self, weight: u32) -> bool
-        requires { weight < BITS }
-        ensures { result ≡ weighs (number self) weight };
+        ensures { result ≡ weighs (number self) weight }
+    {
+        let number = self.wide();
+        weight < 128 && (number >> weight) % 2 == 1
+    }
 
     ghost same: { (a b : Self) → number a ≡ number b → a ≡ b };
+}
 
-    ghost kept: { (n : ℕ) → number (of n) ≡ n };
+// Plain numbers of whole bytes, where every number is kept.
+pub trait Whole: Plain {
+    // how many bits the type has
+    const BITS: u32;
+
+    ghost BITS: { ℕ };
+
+    // what keeps a number
+    ghost of: { ℕ → Self };
+
+    // The number itself, which the type has bits enough for.
+    fn in_range(self) -> Self
+        ensures same { result ≡ self }
+        ensures fits { Self.Plain.number result < 2 ^ BITS };
+
+    ghost spans: { BITS ≡ Self.Plain.span };
+
+    ghost kept: { (n : ℕ) → Self.Plain.number (of n) ≡ n };
 
     ghost bytes: { BITS % 8 ≡ 0 };
 
@@ -42,15 +53,29 @@ pub trait Plain: Copy {
 }
 
 impl Plain for u8 {
+    ghost number = { λ n. n };
+
+    ghost span = { 8 };
+
+    ghost same = { Prim.search rules };
+
+    fn wide(self) -> u128 {
+        self as u128
+    }
+
+    fn narrow(n: u128) -> u8 {
+        (n % 0x100) as u8
+    }
+}
+
+impl Whole for u8 {
     const BITS: u32 = 8;
 
     ghost BITS = { 8 };
 
-    ghost number = { λ n. n };
-
     ghost of = { λ n. n };
 
-    ghost same = { Prim.search rules };
+    ghost spans = { Prim.search rules };
 
     ghost kept = { Prim.search rules };
 
@@ -61,30 +86,32 @@ impl Plain for u8 {
     fn in_range(self) -> u8 {
         self
     }
+}
+
+impl Plain for u16 {
+    ghost number = { λ n. n };
+
+    ghost span = { 16 };
+
+    ghost same = { Prim.search rules };
 
     fn wide(self) -> u128 {
         self as u128
     }
 
-    fn narrow(n: u128) -> u8 {
-        (n % 0x100) as u8
-    }
-
-    fn has_bit(self, weight: u32) -> bool {
-        (self >> weight) % 2 == 1
+    fn narrow(n: u128) -> u16 {
+        (n % 0x1_0000) as u16
     }
 }
 
-impl Plain for u16 {
+impl Whole for u16 {
     const BITS: u32 = 16;
 
     ghost BITS = { 16 };
 
-    ghost number = { λ n. n };
-
     ghost of = { λ n. n };
 
-    ghost same = { Prim.search rules };
+    ghost spans = { Prim.search rules };
 
     ghost kept = { Prim.search rules };
 
@@ -95,30 +122,32 @@ impl Plain for u16 {
     fn in_range(self) -> u16 {
         self
     }
+}
+
+impl Plain for u32 {
+    ghost number = { λ n. n };
+
+    ghost span = { 32 };
+
+    ghost same = { Prim.search rules };
 
     fn wide(self) -> u128 {
         self as u128
     }
 
-    fn narrow(n: u128) -> u16 {
-        (n % 0x1_0000) as u16
-    }
-
-    fn has_bit(self, weight: u32) -> bool {
-        (self >> weight) % 2 == 1
+    fn narrow(n: u128) -> u32 {
+        (n % 0x1_0000_0000) as u32
     }
 }
 
-impl Plain for u32 {
+impl Whole for u32 {
     const BITS: u32 = 32;
 
     ghost BITS = { 32 };
 
-    ghost number = { λ n. n };
-
     ghost of = { λ n. n };
 
-    ghost same = { Prim.search rules };
+    ghost spans = { Prim.search rules };
 
     ghost kept = { Prim.search rules };
 
@@ -129,30 +158,32 @@ impl Plain for u32 {
     fn in_range(self) -> u32 {
         self
     }
+}
+
+impl Plain for u64 {
+    ghost number = { λ n. n };
+
+    ghost span = { 64 };
+
+    ghost same = { Prim.search rules };
 
     fn wide(self) -> u128 {
         self as u128
     }
 
-    fn narrow(n: u128) -> u32 {
-        (n % 0x1_0000_0000) as u32
-    }
-
-    fn has_bit(self, weight: u32) -> bool {
-        (self >> weight) % 2 == 1
+    fn narrow(n: u128) -> u64 {
+        (n % 0x1_0000_0000_0000_0000) as u64
     }
 }
 
-impl Plain for u64 {
+impl Whole for u64 {
     const BITS: u32 = 64;
 
     ghost BITS = { 64 };
 
-    ghost number = { λ n. n };
-
     ghost of = { λ n. n };
 
-    ghost same = { Prim.search rules };
+    ghost spans = { Prim.search rules };
 
     ghost kept = { Prim.search rules };
 
@@ -163,30 +194,32 @@ impl Plain for u64 {
     fn in_range(self) -> u64 {
         self
     }
-
-    fn wide(self) -> u128 {
-        self as u128
-    }
-
-    fn narrow(n: u128) -> u64 {
-        (n % 0x1_0000_0000_0000_0000) as u64
-    }
-
-    fn has_bit(self, weight: u32) -> bool {
-        (self >> weight) % 2 == 1
-    }
 }
 
 impl Plain for u128 {
+    ghost number = { λ n. n };
+
+    ghost span = { 128 };
+
+    ghost same = { Prim.search rules };
+
+    fn wide(self) -> u128 {
+        self
+    }
+
+    fn narrow(n: u128) -> u128 {
+        n
+    }
+}
+
+impl Whole for u128 {
     const BITS: u32 = 128;
 
     ghost BITS = { 128 };
 
-    ghost number = { λ n. n };
-
     ghost of = { λ n. n };
 
-    ghost same = { Prim.search rules };
+    ghost spans = { Prim.search rules };
 
     ghost kept = { Prim.search rules };
 
@@ -196,17 +229,5 @@ impl Plain for u128 {
 
     fn in_range(self) -> u128 {
         self
-    }
-
-    fn wide(self) -> u128 {
-        self
-    }
-
-    fn narrow(n: u128) -> u128 {
-        n
-    }
-
-    fn has_bit(self, weight: u32) -> bool {
-        (self >> weight) % 2 == 1
     }
 }

@@ -16,6 +16,8 @@ impl NumberKind for Ranks {
     ghost CODE = { 1 };
 
     ghost low = { ltb→lt 1 16 tt };
+
+    const NAME: &'static str = "Rank";
 }
 
 pub type Rank = Number<Ranks, u32>;

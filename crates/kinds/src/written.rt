@@ -57,7 +57,7 @@ pub trait Written: Copy {
 
     ghost short: { SIZE ≤ 128 };
 
-    ghost held: { SIZE ≤ Self.Pattern.Plain.BITS };
+    ghost held: { SIZE ≤ Self.Pattern.Plain.span };
 
     ghost plain: { (p : Self.Pattern) → number p ≡ Self.Pattern.Plain.number p };
 

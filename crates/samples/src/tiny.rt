@@ -12,6 +12,8 @@ impl NumberKind for Tinies {
     ghost CODE = { 15 };
 
     ghost low = { ltb→lt 15 16 tt };
+
+    const NAME: &'static str = "Tiny";
 }
 
 impl AddressNumbers for Tinies {}
