@@ -3,9 +3,7 @@
 
 use report::print_report;
 use std::io;
-use std::io::LineWriter;
 
 fn main(rt: HostRuntime) -> io::Result<()> {
-    let mut lines = LineWriter::new(rt.alloc(), rt.stdout())?;
-    print_report(&mut rt.stdin(), &mut lines)
+    print_report(&mut rt.stdin(), &mut rt.stdout())
 }

@@ -4,7 +4,7 @@ mod tests {
     use crate::drip::streamed;
     use hex::decode;
     use packets::{PacketFault, Ports, read};
-    use report::report;
+    use report::{report, tell};
     use std::test::Fail;
 
     // A packet of 1,500 bytes is read, and the same input with a length of 1,501 is too long.
@@ -19,6 +19,29 @@ mod tests {
         );
         input[3] = 0xdd;
         assert!(rt; report(heap, input.as_slice())?.as_str() == "long\n");
+        Ok(())
+    }
+
+    // The longest line that a packet can give: each number at its longest, with ports.
+    #[test]
+    fn longest_line(rt: HostRuntime) -> Result<(), Fail> {
+        let heap = rt.alloc();
+        let mut input = decode(
+            heap,
+            "ffff05dc450005dc0000000040117512ffffffffffffffffffffffff",
+        )?;
+        input.resize(1504, 0)?;
+        let line =
+            "packet 255.255.255.255 255.255.255.255 protocol 17 payload 1480 ports 65535 65535\n";
+        assert!(rt; report(heap, input.as_slice())?.as_str() == line);
+        assert!(rt; streamed(heap, input.as_slice())?.as_slice() == line.as_bytes());
+        Ok(())
+    }
+
+    // The end of an input has no line.
+    #[test]
+    fn end_untold(rt: HostRuntime) -> Result<(), Fail> {
+        assert!(rt; tell(None).is_none());
         Ok(())
     }
 

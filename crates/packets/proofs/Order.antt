@@ -32,13 +32,9 @@ past_lengths : (b : List ℕ) → Sized b → datagram b ≡ cond (not (all_ones
 past_lengths b h =
     rw (le-ltb (length b) 20 h.long, eq-eqb (version b) 4 h.four, le-ltb (header_words b) 5 h.words, le-ltb (total_length b) (header_length b) h.above, le-ltb (length b) (total_length b) h.within) refl
 
--- the reader's test of a front as long as the header is that of the header's sum
-front_adds : (b : List ℕ) (n : ℕ) → Sized b → n ≡ header_length b → eqb (ones_complement (word_sum (take n b) (length (take n b) / 2))) 65535 ≡ eqb (ones_complement (header_sum b)) 65535
-front_adds b n h e = ap (λ (s : ℕ). eqb (ones_complement s) 65535) (sum_front b n (header_words b) (omega (arith, h.above, h.within)) e)
-
-pub at_sum : (b : List ℕ) (n : ℕ) → Sized b → n ≡ header_length b → false ≡ eqb (ones_complement (word_sum (take n b) (length (take n b) / 2))) 65535 → datagram b ≡ Err Checksum
-at_sum b n h e k =
-    let wrong : all_ones (header_sum b) ≡ false = sym (all_ones_lem (header_sum b)) ∙ sym (k ∙ front_adds b n h e) in
+pub at_sum : (b : List ℕ) → Sized b → false ≡ eqb (ones_complement (header_sum b)) 65535 → datagram b ≡ Err Checksum
+at_sum b h k =
+    let wrong : all_ones (header_sum b) ≡ false = sym (all_ones_lem (header_sum b)) ∙ sym k in
     past_lengths b h ∙ ap (λ t. cond (not t) (Err Checksum) (Ok (fields b))) wrong
 
 pub at_end : (b : List ℕ) → Sized b → true ≡ eqb (ones_complement (header_sum b)) 65535 → datagram b ≡ Ok (fields b)
@@ -46,7 +42,14 @@ at_end b h k =
     let right : all_ones (header_sum b) ≡ true = sym (all_ones_lem (header_sum b)) ∙ sym k in
     past_lengths b h ∙ ap (λ t. cond (not t) (Err Checksum) (Ok (fields b))) right
 
--- the same by the reader's test
+-- the reader's test of a front as long as the header is that of the header's sum
+front_adds : (b : List ℕ) (n : ℕ) → Sized b → n ≡ header_length b → eqb (ones_complement (word_sum (take n b) (length (take n b) / 2))) 65535 ≡ eqb (ones_complement (header_sum b)) 65535
+front_adds b n h e = ap (λ (s : ℕ). eqb (ones_complement s) 65535) (sum_front b n (header_words b) (omega (arith, h.above, h.within)) e)
+
+-- the same two by the reader's test
+pub at_front_sum : (b : List ℕ) (n : ℕ) → Sized b → n ≡ header_length b → false ≡ eqb (ones_complement (word_sum (take n b) (length (take n b) / 2))) 65535 → datagram b ≡ Err Checksum
+at_front_sum b n h e k = at_sum b h (k ∙ front_adds b n h e)
+
 pub at_front : (b : List ℕ) (n : ℕ) → Sized b → n ≡ header_length b → true ≡ eqb (ones_complement (word_sum (take n b) (length (take n b) / 2))) 65535 → datagram b ≡ Ok (fields b)
 at_front b n h e k = at_end b h (k ∙ front_adds b n h e)
 

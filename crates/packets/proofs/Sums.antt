@@ -116,3 +116,15 @@ sum_set b i v (suc k) h l =
                 rw (weight_lower i (omega arith)) (omega (arith, before))
           ]
     ]
+
+-- the same for an upper byte
+pub sum_high : (b : List ℕ) (j v k : ℕ) → 2 * j < length b → j < k → word_sum (set b (2 * j) v) k + octet b (2 * j) * 256 ≡ word_sum b k + v * 256
+sum_high b j v k h l =
+    let upper : weight (2 * j) ≡ 256 = weight_upper (2 * j) (omega arith) in
+    rw upper at (sum_set b (2 * j) v k h (omega arith))
+
+-- and for a lower one
+pub sum_low : (b : List ℕ) (j v k : ℕ) → 2 * j + 1 < length b → j < k → word_sum (set b (2 * j + 1) v) k + octet b (2 * j + 1) ≡ word_sum b k + v
+sum_low b j v k h l =
+    let lower : weight (2 * j + 1) ≡ 1 = weight_lower (2 * j + 1) (omega arith) in
+    omega (arith, rw lower at (sum_set b (2 * j + 1) v k h (omega arith)))

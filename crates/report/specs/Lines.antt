@@ -63,6 +63,11 @@ outcome (Err e) = said_of_fault e
 abbrev pub said : Line → Told
 said l = outcome l.0
 
+-- a line that may be missing, by its values
+abbrev pub said_of : Option Line → Option Told
+said_of (Some l) = Some (said l)
+said_of None = None
+
 -- a line, its byte 10, and the lines behind it; where nothing is told, no line follows
 abbrev pub before : Option Told → List ℕ → List ℕ
 before None more = []

@@ -1,16 +1,22 @@
-ghost use Rattle.std.specs.Prelude.{◌≡◌, IfOk, OnOk, IfSome, Some, string_bytes};
+ghost use Rattle.std.specs.Prelude.{◌≡◌, [], ◌∷◌, ◌++◌, IfOk, OnOk, IfSome, Some, string_bytes};
 ghost use Rattle.std.specs.Io.KnownBytes.{Appends};
 ghost use Rattle.report.specs.declared.lines.LineFault.TheVariants.{Denied};
-ghost use Rattle.report.specs.Items.{meant};
-ghost use Rattle.report.specs.Lines.{dotted, ports_text, text, said, said_of_fault, outcome, told_of, fault_of, lines};
+ghost use Rattle.report.specs.Items.{goes_on, meant};
+ghost use Rattle.report.specs.Lines.{dotted, ports_text, text, said, said_of, said_of_fault, outcome, told_of, fault_of, lines};
 
 use super::items::{ITEM_BYTES, Item, ItemFault, Items, MOST_ITEMS};
 use super::stream::next_item;
+use arrayvec::ArrayString;
 use kinds::ipv4::Ipv4;
 use packets::{Packet, PacketFault, Ports};
 use std::alloc::{AllocError, Global};
+use std::fmt::Write as _;
 use std::io::{Read, Write};
 use std::{fmt, io};
+
+// Room for a line and its line feed, of which the longest has 82 bytes: an item's packet has at most 1,500 bytes, so the
+// length of its payload has at most four digits.
+const LINE_BYTES: usize = 128;
 
 // Why an item tells of no packet.
 #[derive(Clone, Copy, PartialEq, Eq, Debug)]
@@ -23,8 +29,8 @@ pub enum LineFault {
 impl From<PacketFault> for LineFault {
     ghost from_gives = { λ e r. r ≡ Denied e };
 
-    fn from(fault: PacketFault) -> LineFault {
-        LineFault::Denied(fault)
+    fn from(refused: PacketFault) -> LineFault {
+        LineFault::Denied(refused)
     }
 }
 
@@ -114,11 +120,11 @@ fn packet_of<'i>(item: Result<Item<'i>, ItemFault>) -> Result<Packet<'i>, LineFa
     Ok(packets::read(item?.packet)?)
 }
 
-// The line of an item, or of what stands in its place.
-pub fn tell<'i>(item: Result<Item<'i>, ItemFault>) -> Line<'i>
-    ensures { Some (said result) ≡ told_of (meant (Some item.entry)) }
+// The line of an item, or of what stands in its place; the end of the input has none.
+pub fn tell<'i>(item: Option<Result<Item<'i>, ItemFault>>) -> Option<Line<'i>>
+    ensures { said_of result ≡ told_of (meant item.entry) }
 {
-    Line(packet_of(item))
+    Some(Line(packet_of(item?)))
 }
 
 // The lines of a whole input, each with its line feed.
@@ -126,11 +132,27 @@ pub fn report(heap: Global, input: &[u8]) -> Result<String, AllocError>
     ensures { IfOk result (λ s. string_bytes s ≡ lines 65536 input.now) }
 {
     let mut text = String::new(heap);
-    for item in Items::new(input).take(MOST_ITEMS) {
-        let line = tell(item);
+    let mut items = Items::new(input).take(MOST_ITEMS);
+    while let Some(line) = tell(items.next()) {
         text.push_str(format!(in heap; "{line}\n")?.as_str())?;
     }
     Ok(text)
+}
+
+// A line and its line feed, in memory on the stack: printing needs no heap, and hands a line over whole.
+fn shown(line: &Line<'_>) -> io::Result<ArrayString<LINE_BYTES>>
+    ensures { IfOk result (λ s. s.bytes ≡ text (said line.now) ++ (10 ∷ [])) }
+{
+    let mut shown = ArrayString::new();
+    writeln!(shown, "{line}")?;
+    Ok(shown)
+}
+
+// Whether another item may stand behind this one: behind a whole one only.
+fn goes_on(item: Option<Result<Item<'_>, ItemFault>>) -> bool
+    ensures { result ≡ goes_on (meant item.entry) }
+{
+    matches!(item, Some(Ok(_)))
 }
 
 // Prints the lines of an input that comes by reads, each as soon as its item is read, through a buffer of one item.
@@ -140,12 +162,12 @@ pub fn print_report<R: Read, W: Write>(input: &mut R, out: &mut W) -> io::Result
 {
     let mut bytes = [0u8; ITEM_BYTES];
     for _ in 0..MOST_ITEMS {
-        let Some(item) = Items::new(next_item(input, &mut bytes)?).next() else {
+        let item = Items::new(next_item(input, &mut bytes)?).next();
+        let Some(line) = tell(item) else {
             break;
         };
-        let line = tell(item);
-        writeln!(out, "{line}")?;
-        if item.is_err() {
+        out.write_all(shown(&line)?.as_bytes())?;
+        if !goes_on(item) {
             break;
         }
     }

@@ -1,14 +1,14 @@
 use Rattle.std.proofs.Common.{◌≡◌, ℕ, ◌-◌, ◌*◌, List, take, drop, Ok, sym, ap, ◌∙◌, arith}
 use Rattle.packets.specs.Header.{octet}
 use Rattle.packets.specs.Datagram.{header_length, payload_of, ports_of}
-use Rattle.packets.proofs.Order.{Sized, sized, at_sum, at_front, same_fields}
+use Rattle.packets.proofs.Order.{Sized, sized, at_front_sum, at_front, same_fields}
 use Rattle.packets.proofs.header.read.Goals as goal
 
 pub returns-then-not-adds_up : goal.returns-then-not-adds_up
 returns-then-not-adds_up c =
     let all : Sized c.args.bytes.now = sized c.args.bytes.now c.header_words-words.result c.total_length-total.result c.header_words-words.ensures c.total_length-total.ensures
     c.if-is_short.ensures c.if-not-is_version_four.ensures c.if-is_header_short.ensures c.if-is_outside.ensures in
-    sym (at_sum c.args.bytes.now (c.header_words-words.result * 4) all (omega arith) c.if-not-adds_up.ensures)
+    sym (at_front_sum c.args.bytes.now (c.header_words-words.result * 4) all (omega arith) c.if-not-adds_up.ensures)
 
 pub returns : goal.returns
 returns c =

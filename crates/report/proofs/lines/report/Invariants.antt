@@ -4,5 +4,9 @@ use Rattle.report.specs.Lines.{lines}
 use Rattle.report.proofs.lines.report.Given as goal
 
 -- the text so far and the lines of what is left are the lines of the input
-abbrev pub invariant-loop-item : goal.invariant-loop-item
-invariant-loop-item l = string_bytes l.text ++ lines (take_count l.item-iterator) (take_source l.item-iterator).rest.now ≡ lines 65536 l.fn.input
+abbrev pub invariant-loop-line : goal.invariant-loop-line
+invariant-loop-line l = string_bytes l.text ++ lines (take_count l.items) (take_source l.items).rest.now ≡ lines 65536 l.fn.input
+
+-- as many items as may still be read
+abbrev pub decreases-loop-line : goal.decreases-loop-line
+decreases-loop-line l = take_count l.items
