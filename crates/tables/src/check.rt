@@ -1,5 +1,5 @@
 // Which tables are accepted, and which refusal another one meets at which record.
-ghost use Rattle.std.specs.Prelude.{◌≡◌, ℕ, ◌+◌, ◌*◌, ◌<◌, ◌≤◌, Bool, true, [], length, drop, IfOk, Ok, OnOk};
+ghost use Rattle.std.specs.Prelude.{◌≡◌, ℕ, ◌+◌, ◌*◌, ◌<◌, ◌≤◌, Bool, true, [], length, take, drop, IfOk, Ok, OnOk};
 ghost use Rattle.kinds.specs.Strings.{bits};
 ghost use Rattle.filters.specs.Meaning.{respelt};
 ghost use Rattle.filters.specs.Refusals.{body_verdict};
@@ -61,6 +61,15 @@ fn is_label_in<D: Address, S: Address, C: Cost>(records: &[u8], label: u16) -> b
         .any(|record| label_of(record) == label)
 }
 
+// The records before a place, counted from 0.
+fn earlier<D: Address, S: Address, C: Cost>(records: &[u8], i: usize) -> &[u8]
+    requires { i * record_size (kind_of D.Written) (kind_of S.Written) (kind_of C.Written) ≤ length records.now }
+    ensures { result.now ≡ take (i * record_size (kind_of D.Written) (kind_of S.Written) (kind_of C.Written)) records.now }
+{
+    let size = record_size::<D, S, C>();
+    &records[..i * size]
+}
+
 // The answer on the record at a place, counted from 0: a refusal names the record, counted from 1.
 fn in_record(i: usize, answer: Result<(), RecordFault>) -> Result<(), InRecord>
     requires { i < 4095 }
@@ -81,7 +90,7 @@ fn check_records<D: Address, S: Address, C: Cost>(records: &[u8]) -> Result<(), 
     let size = record_size::<D, S, C>();
     for (i, record) in records.chunks_exact(size).enumerate() {
         let place = read_record::<D, S, C>(record);
-        let used = is_label_in::<D, S, C>(&records[..i * size], place.label);
+        let used = is_label_in::<D, S, C>(earlier::<D, S, C>(records, i), place.label);
         in_record(i, check_record::<D, S, C>(&place, used))?;
     }
     Ok(())

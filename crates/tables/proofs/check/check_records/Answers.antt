@@ -1,19 +1,19 @@
 use Rattle.std.proofs.Common.{ℕ, ◌+◌, ◌*◌, true, List, length, Ok, Err, sym, refl, ap, ◌∙◌, arith, rules}
 use Rattle.std.proofs.lemmas.Result.{err_from_is_err_and}
 use Rattle.std.proofs.lemmas.List.{length-take-le}
-use Rattle.tables.specs.Format.{kind, Entry, entries, entry_of}
+use Rattle.tables.specs.Format.{kind, Entry, entries, entry_of, record_size}
 use Rattle.tables.specs.Verdict.{has, labels, behind_records}
 use Rattle.tables.proofs.Chunks.{turned, ended, inside, before}
 use Rattle.tables.proofs.Walk.{counted_passed, onward_ok, onward_passed, onward_err, one_more, entries_all}
 use Rattle.tables.proofs.check.check_records.Goals as goal
 
-pub slice_bounds-is_label_in-end : goal.slice_bounds-is_label_in-end
-slice_bounds-is_label_in-end g c =
+pub earlier-requires : goal.earlier-requires
+earlier-requires g c =
     let D = kind g.D.Written.CODE g.D.Written.SIZE in
     let S = kind g.S.Written.CODE g.S.Written.SIZE in
     let C = kind g.C.Written.CODE g.C.Written.SIZE in
     let t = turned D S C c.args.records.now c.loop-i.i-iterator c.next.new.self _ _ c.loop-i.invariant.1 c.in-Some.is c.next.ensures.steps in
-    sym (length-take-le _ c.args.records.now (omega (arith, inside D S C c.args.records.now c.in-Some.i t.1.below, ap (λ (k : ℕ). c.in-Some.i * k) c.record_size-size.ensures.size)))
+    omega (arith, inside D S C c.args.records.now c.in-Some.i t.1.below)
 
 pub in_record-requires : goal.in_record-requires
 in_record-requires g c =
@@ -31,7 +31,7 @@ loop-i-preserved g c =
     let es = entries D S C c.args.records.now in
     let r = entry_of g.D.Written.number g.S.Written.number g.C.Written.number c.read_record-place.result in
     let t = turned D S C c.args.records.now c.loop-i.i-iterator c.next.new.self _ _ c.loop-i.invariant.1 c.in-Some.is c.next.ensures.steps in
-    let used = c.is_label_in-used.ensures ∙ ap (λ (rs : List Entry). has r.label (labels rs)) (before D S C c.args.records.now c.in-Some.i c.record_size-size.result c.record_size-size.ensures.size t.1.below) in (
+    let used = c.is_label_in-used.ensures ∙ ap (λ (rs : List Entry). has r.label (labels rs)) (ap (entries D S C) c.earlier.ensures ∙ before D S C c.args.records.now c.in-Some.i (record_size D S C) refl t.1.below) in (
       search rules,
       t.1.then,
       λ pass tells.
@@ -53,7 +53,7 @@ returns-in_err-in_record-clause-answer g c =
     let es = entries D S C c.args.records.now in
     let r = entry_of g.D.Written.number g.S.Written.number g.C.Written.number c.read_record-place.result in
     let t = turned D S C c.args.records.now c.loop-i.i-iterator c.next.new.self _ _ c.loop-i.invariant.1 c.in-Some.is c.next.ensures.steps in
-    let used = c.is_label_in-used.ensures ∙ ap (λ (rs : List Entry). has r.label (labels rs)) (before D S C c.args.records.now c.in-Some.i c.record_size-size.result c.record_size-size.ensures.size t.1.below) in
+    let used = c.is_label_in-used.ensures ∙ ap (λ (rs : List Entry). has r.label (labels rs)) (ap (entries D S C) c.earlier.ensures ∙ before D S C c.args.records.now c.in-Some.i (record_size D S C) refl t.1.below) in
     let p = err_from_is_err_and c.from_residual.result c.from_residual.ensures.1 in
     λ pass tells.
     ap (behind_records (length es)) (p.1 ∙ ap Err p.2)
