@@ -1,4 +1,4 @@
 pub mod Fields
-pub mod Agree
 pub mod Prefixes
+mod Fronts
 mod Cuts

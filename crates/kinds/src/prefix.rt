@@ -1,23 +1,22 @@
 // Prefixes of addresses: how an address and the first bits of another agree.
-ghost use Rattle.std.specs.Prelude.{◌≡◌, take};
-ghost use Rattle.std.specs.Bool.{beq};
+ghost use Rattle.std.specs.Prelude.{◌≡◌, ◌/◌, ◌^◌, take};
 ghost use Rattle.kinds.specs.Strings.{starts};
 
 use crate::address::Address;
-use crate::bits::Bits;
+use crate::plain::Plain;
+use crate::written::Written;
 
-// Whether two bits are the same.
-fn agree(one: bool, other: bool) -> bool
-    ensures { result ≡ beq one other }
+// The number of a value without so many of its last bits.
+fn front<W: Written>(value: &W, behind: u32) -> u128
+    ensures { result ≡ W.Written.number (W.Written.pattern value.now) / 2 ^ behind }
 {
-    one == other
+    value.write().wide().unbounded_shr(behind)
 }
 
 // Whether the first `length` bits of `prefix` begin `address`; past the width no bit is left to differ.
 pub fn is_prefix<A: Address>(prefix: &A, length: u32, address: &A) -> bool
     ensures { result ≡ starts (take length (A.Address.string prefix.now)) (A.Address.string address.now) }
 {
-    Bits::first(prefix, length)
-        .zip(Bits::of(address))
-        .all(|(one, other)| agree(one, other))
+    let behind = A::WIDTH - length.min(A::WIDTH);
+    front(prefix, behind) == front(address, behind)
 }
