@@ -1,4 +1,4 @@
-use Rattle.std.proofs.Common.{◌^◌, ◌<◌, ◌∙◌, subst, arith, ℕ}
+use Rattle.std.proofs.Common.{◌^◌, ◌<◌, ◌∙◌, subst, ℕ}
 use Rattle.std.proofs.lemmas.Bool.{le-ltb}
 use Rattle.kinds.specs.Bits.{weighs_past}
 use Rattle.kinds.proofs.plain.Plain.has_bit.Goals as goal
