@@ -1,6 +1,5 @@
-use Rattle.std.proofs.Common.{ℕ, ◌+◌, ◌*◌, true, List, length, Ok, Err, sym, refl, ap, ◌∙◌, arith, rules}
+use Rattle.std.proofs.Common.{◌+◌, true, List, length, Ok, Err, sym, refl, ap, ◌∙◌, arith, rules}
 use Rattle.std.proofs.lemmas.Result.{err_from_is_err_and}
-use Rattle.std.proofs.lemmas.List.{length-take-le}
 use Rattle.tables.specs.Format.{kind, Entry, entries, entry_of, record_size}
 use Rattle.tables.specs.Verdict.{has, labels, behind_records}
 use Rattle.tables.proofs.Chunks.{turned, ended, inside, before}
